@@ -1,0 +1,8 @@
+pub mod Lays
+pub mod Outs
+pub mod Firsts
+pub mod Rows
+pub mod Forgets
+pub mod Lifts
+pub mod Distinct
+pub mod Laws

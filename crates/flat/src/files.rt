@@ -1,0 +1,13 @@
+// The eight files. This struct has no ghost field, so that one of its slots can be lent.
+use crate::slot::FileSlot;
+
+// Few, so that a disk without a free number is met soon.
+const FILES: usize = 8;
+
+#[derive(Drop)]
+pub(crate) struct Files {
+    slots: [FileSlot; FILES],
+}
+
+pub mod lookups;
+pub mod requests;

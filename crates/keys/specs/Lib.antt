@@ -1,0 +1,3 @@
+pub mod Names
+pub mod Texts
+pub mod Keys

@@ -1,0 +1,24 @@
+// Things that are looked up by a number, and the one search for them.
+ghost use mathlib.Core.Path.{_≡_};
+ghost use Prim.Native.Nat.{ℕ};
+ghost use Rattle.table.specs.Numbers.{Place};
+
+// What has a number that it is looked up by.
+pub trait Numbered {
+    ghost id: { Self → ℕ };
+
+    fn number(&self) -> u64
+        ensures { λ r. ⌜ r ≡ id (now (self .entry)) ⌝ };
+}
+
+// The first place of `number` among `items`, or none where it is absent.
+pub fn position<T: Numbered>(items: &[T], number: u64) -> Option<usize>
+    ensures { λ r. ⌜ Place (T·Numbered .id) (now (items .entry)) number r ⌝ }
+{
+    for (i, item) in items.iter().enumerate() {
+        if item.number() == number {
+            return Some(i);
+        }
+    }
+    None
+}
