@@ -1,8 +1,9 @@
 -- The laws of `sized` and `laid`, by places. Assumes nothing.
 use mathlib.Core.Path.{_≡_, refl, sym, ap, _∙_}
-use mathlib.Core.List.{List, [], _∷_, _++_}
+use mathlib.Core.List.{List, [], _∷_, _++_, append-nil}
 use mathlib.Core.Logic.{inl, inr}
 use Prim.Native.Nat.{ℕ, _+_, _-_, _<_, _≤_, min, max}
+use native.Mathlib.Nat.{add-zero}
 use native.Mathlib.Omega.{arith}
 use borrow.Author.Needs.{needs}
 use lib.ListN.{length, take, drop, getD, replicate}
@@ -59,3 +60,23 @@ module _ (old : List ℕ) (at : ℕ) where
         | inl l ↦ below k l ∙ sym (laid-below ys k l p)
         | inr l ↦ elim (cases-lt k (at + length ys)) [ inl m ↦ within k l m ∙ sym (laid-within ys k l m) | inr m ↦ above k m ∙ sym (laid-above ys k m) ]
       ])
+
+-- what is laid right behind what was laid is laid with it
+pub laid-on : (old : List ℕ) (at : ℕ) (xs ys : List ℕ) → laid (laid old at xs) (at + length xs) ys ≡ laid old at (xs ++ ys)
+unfolding laid
+laid-on old at [] ys = ap (λ k. laid old k ys) (add-zero at)
+laid-on old at (x ∷ xs) [] = ap (laid old at) (sym (append-nil (x ∷ xs)))
+laid-on old at (x ∷ xs) (y ∷ ys) = both (x ∷ xs) (y ∷ ys) (omega arith) (omega arith)
+  where
+    both : (xs ys : List ℕ) → 0 < length xs → 0 < length ys → laid (laid old at xs) (at + length xs) ys ≡ laid old at (xs ++ ys)
+    both xs ys p q =
+        let old′ = laid old at xs in
+        let n = length-append xs ys in
+        laid-is old at (xs ++ ys) (laid old′ (at + length xs) ys) (omega arith) (length-laid old′ (at + length xs) ys q ∙ (let e = length-laid old at xs p in omega arith))
+        (λ k l. laid-below old′ (at + length xs) ys k (omega arith) q ∙ laid-below old at xs k l p)
+        (λ k l m. elim (cases-lt k (at + length xs)) [
+          | inl b ↦ laid-below old′ (at + length xs) ys k b q ∙ laid-within old at xs k l b ∙ sym (getD-append-left xs ys 0 (k - at) (omega arith))
+          | inr b ↦ let e : k - (at + length xs) ≡ k - at - length xs = omega arith in
+              laid-within old′ (at + length xs) ys k b (omega arith) ∙ ap (λ j. getD ys j 0) e ∙ sym (getD-append-right xs ys (length xs) (k - at) 0 refl (omega arith))
+        ])
+        (λ k l. laid-above old′ (at + length xs) ys k (omega arith) ∙ laid-above old at xs k (omega arith))

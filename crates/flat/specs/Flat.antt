@@ -7,9 +7,11 @@ use Rattle.flat.specs.Plans.{rest}
 use Rattle.flat.specs.Steps.{Flat, step}
 use Rattle.flat.specs.declared.memory.FlatDisk.{FlatDisk}
 
+-- the files of a disk by number
 abbrev pub flat-meaning : FlatDisk → DiskState
 flat-meaning d = meaning-of (d .files .slots)
 
+-- and with what is left of its plan
 abbrev pub flat-of : FlatDisk → Flat
 flat-of d = record { files = flat-meaning d; plan = rest (d .plan) }
 

@@ -21,9 +21,11 @@ live (Some x) = kept x
 unfoldable pub files-of : List FileState → DiskState
 files-of vs = λ f. live (nth vs f)
 
+-- the files of a row of slots
 abbrev pub meaning-of : List FileSlot → DiskState
 meaning-of xs = files-of (map state xs)
 
+-- the numbers that the slots are looked up by
 abbrev pub numbers : List FileSlot → List ℕ
 numbers xs = map number-of xs
 
@@ -31,6 +33,7 @@ numbers xs = map number-of xs
 abbrev pub InOrder : List FileSlot → Type 0
 InOrder xs = numbers xs ≡ counting 0 8
 
+-- the key of a file, if it is there and has one
 abbrev pub key-in : Option FileState → Option KeyName
 key-in None = None
 key-in (Some x) = x .key

@@ -1,7 +1,8 @@
--- The slots of the files. Assumes nothing.
+-- The files as a row of slots. Assumes nothing.
 use mathlib.Core.List.{List}
 use Rattle.flat.specs.declared.slot.FileSlot.{FileSlot}
 use Rattle.flat.specs.declared.files.Files.{Files}
 
+-- the slots, in order
 abbrev pub slots : Files → List FileSlot
 slots f = f .slots

@@ -11,6 +11,7 @@ use Rattle.flat.specs.declared.slot.FileSlot.{FileSlot}
 abbrev pub content : FileSlot → List ℕ
 content s = take (s .len) (s .bytes)
 
+-- the file in it, by its key's and its own bytes
 abbrev pub state : FileSlot → FileState
 state s = record { key = mapped key-name (s .key); bytes = content s; n = s .n; k = s .k; holds = s .holds }
 

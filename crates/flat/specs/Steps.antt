@@ -27,21 +27,27 @@ use Rattle.flat.specs.Plans.{first, planned, planned-unbind, landing}
 
 -- ---- faults
 
+-- a fault, as an open gives it, and so for the other kinds of request
 abbrev pub open-fault : DiskFault → OpenFault
 open-fault d = record { 0 = d }
 
+-- of a write, a header or a flush of a directory or of the root
 abbrev pub write-fault : DiskFault → WriteFault
 write-fault d = record { 0 = d }
 
+-- of a barrier's end
 abbrev pub flush-fault : DiskFault → FlushFault
 flush-fault d = record { 0 = d }
 
+-- of a resize
 abbrev pub resize-fault : DiskFault → ResizeFault
 resize-fault d = record { 0 = d }
 
+-- of a length or a read
 abbrev pub length-fault : DiskFault → LengthFault
 length-fault d = record { 0 = d }
 
+-- of an unbinding
 abbrev pub unbind-fault : DiskFault → UnbindFault
 unbind-fault d = record { 0 = d }
 
@@ -91,23 +97,29 @@ fits at m = min m (4096 - at)
 abbrev pub write-refused : FileState → ℕ → ℕ → Bool → ℕ → Bool
 write-refused x at m durably limit = (ltb 0 m && eqb (fits at m) 0) || (ltb 0 (min (fits at m) limit) && (not durably && full x))
 
+-- a write of m bytes answers how many land: those that fit, and at most `limit`
 abbrev pub write-answer : ℕ → ℕ → Bool → ℕ → FileState → Result ℕ WriteFault
 write-answer at m durably limit x = cond (write-refused x at m durably limit) (Err (write-fault no-room)) (Ok (min (fits at m) limit))
 
+-- these are laid, and counted unless they are durable; a fault leaves the file
 abbrev pub after-write : ℕ → List ℕ → Bool → FileState → Result ℕ WriteFault → FileState
 after-write at given durably x (Ok c) = written x at given durably c
 after-write at given durably x (Err e) = x
 
+-- a resize is refused past 4,096 bytes, and where no mutation can be counted
 abbrev pub resize-answer : ℕ → FileState → Result (Unit {0}) ResizeFault
 resize-answer end x = cond (ltb 4096 end || full x) (Err (resize-fault no-room)) (Ok tt)
 
+-- the file cut or extended; a fault leaves it
 abbrev pub after-resize : ℕ → FileState → Result (Unit {0}) ResizeFault → FileState
 after-resize end x (Ok u) = resized x end
 after-resize end x (Err e) = x
 
+-- so is a header of m bytes
 abbrev pub header-answer : ℕ → FileState → Result (Unit {0}) WriteFault
 header-answer m x = cond (ltb 4096 m || full x) (Err (write-fault no-room)) (Ok tt)
 
+-- the header's bytes, all covered; a fault leaves the file
 abbrev pub after-header : List ℕ → FileState → Result (Unit {0}) WriteFault → FileState
 after-header given x (Ok u) = headed x given
 after-header given x (Err e) = x
@@ -116,6 +128,7 @@ after-header given x (Err e) = x
 abbrev pub end-answer : FileState → Result (Unit {0}) FlushFault
 end-answer x = Ok tt
 
+-- what had landed at the mark is covered
 abbrev pub after-end : ℕ → FileState → Result (Unit {0}) FlushFault → FileState
 after-end mark x (Ok u) = reached x mark
 after-end mark x (Err e) = x
@@ -130,6 +143,7 @@ abbrev pub mark-of : Option FileState → ℕ
 mark-of None = 0
 mark-of (Some x) = x .n
 
+-- a write under its entry: a planned fault, or a limit
 abbrev pub write : Result ℕ DiskFault → DiskState → ℕ → ℕ → List ℕ → Path → Result ℕ WriteFault × DiskState
 write (Err d) s f at given p = (Err (write-fault d), s)
 write (Ok limit) s f at given p = edited write-fault s f (held (s f)) (write-answer at (length given) (durable p) limit) (after-write at given (durable p))
@@ -153,11 +167,12 @@ open-new s q (Some f) = (Ok f, put s f (Some (new-file q 1)))
 abbrev pub open-held : DiskState → ℕ → FileState → Result ℕ OpenFault × DiskState
 open-held s f x = cond (leb 1099511627776 (x .holds)) (Err (open-fault no-room), s) (Ok f, put s f (Some (with-holds x (x .holds + 1))))
 
--- the number of a bound file always has a file
+-- a bound number has a file, so that the first line never answers
 abbrev pub open-old : DiskState → ℕ → Option FileState → Result ℕ OpenFault × DiskState
 open-old s f None = (Err (open-fault not-bound), s)
 open-old s f (Some x) = open-held s f x
 
+-- the file of a bound key, or a new one
 abbrev pub open-by : DiskState → KeyName → Option ℕ → Result ℕ OpenFault × DiskState
 open-by s q None = open-new s q (first-free s)
 open-by s q (Some f) = open-old s f (s f)

@@ -9,6 +9,7 @@ use Rattle.flat.specs.declared.view.FileView.{FileView}
 abbrev pub shown : Option KeyName → FileView → FileState
 shown o v = record { key = o; bytes = v .bytes .now; n = v .n; k = v .k; holds = v .holds }
 
+-- so with a view that may be absent
 abbrev pub seen : Option KeyName → Option FileView → Option FileState
 seen o None = None
 seen o (Some v) = Some (shown o v)

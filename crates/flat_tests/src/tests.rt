@@ -4,7 +4,9 @@ use disk::Disk;
 use disk::FileOffset;
 use disk::Path;
 use faults::Fault;
+use faults::LengthFault;
 use faults::OpenFault;
+use faults::ResizeFault;
 use faults::UnbindFault;
 use faults::WriteFault;
 use faults::disk::FlushFaultDebug;
@@ -41,7 +43,21 @@ fn open_code(answer: Result<u64, OpenFault>) -> u16 {
     }
 }
 
-fn write_code(answer: Result<usize, WriteFault>) -> u16 {
+fn write_code<T: Drop>(answer: Result<T, WriteFault>) -> u16 {
+    match answer {
+        Ok(_) => 0,
+        Err(fault) => fault.0.code(),
+    }
+}
+
+fn resize_code(answer: Result<(), ResizeFault>) -> u16 {
+    match answer {
+        Ok(()) => 0,
+        Err(fault) => fault.0.code(),
+    }
+}
+
+fn length_code(answer: Result<u64, LengthFault>) -> u16 {
     match answer {
         Ok(_) => 0,
         Err(fault) => fault.0.code(),
@@ -83,9 +99,9 @@ fn a_file_has_at_most_4096(rt: LibcRuntime) -> Result<(), Fail> {
     let mut disk = FlatDisk::new(Vec::new(rt.alloc()));
     let file = disk.open(&key(b"a")?)?;
     disk.header(file, part(4096))?;
-    check(disk.header(file, part(4097)).is_err())?;
+    check_eq(write_code(disk.header(file, part(4097))), 28)?;
     disk.resize(file, at(4095)?)?;
-    check(disk.resize(file, at(4097)?).is_err())?;
+    check_eq(resize_code(disk.resize(file, at(4097)?)), 28)?;
     check_eq(disk.length(file)?, 4095)?;
     disk.resize(file, at(4096)?)?;
     check_eq(disk.length(file)?, 4096)
@@ -171,7 +187,7 @@ fn a_file_goes_with_its_last_hold(rt: LibcRuntime) -> Result<(), Fail> {
     let file = disk.open(&key)?;
     disk.close(file);
     check(disk.file(file).is_some()).note("bound")?;
-    check(disk.length(file).is_err()).note("not held")?;
+    check_eq(length_code(disk.length(file)), 9).note("not held")?;
     check_eq(disk.open(&key)?, file)?;
     disk.unbind(&key)?;
     check(disk.file(file).is_some()).note("held")?;

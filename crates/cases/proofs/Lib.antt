@@ -1,0 +1,3 @@
+pub mod Told
+pub mod Replay
+pub mod Same

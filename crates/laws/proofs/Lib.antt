@@ -1,0 +1,17 @@
+pub mod Progs
+pub mod Near
+pub mod Fair
+pub mod Opens
+pub mod Finishes
+pub mod Begins
+pub mod Tickets
+pub mod Removes
+pub mod Laws
+pub mod Determines
+pub mod Totals
+pub mod Buffers
+pub mod Writes
+pub mod Transfers
+pub mod Reaches
+pub mod Bodies
+pub mod Barriers

@@ -1,0 +1,9 @@
+pub mod Every
+pub mod Answers
+pub mod Rows
+pub mod Refusals
+pub mod Numbers
+pub mod Buffers
+pub mod Reach
+pub mod Bodies
+pub mod Barriers

@@ -1,0 +1,16 @@
+pub mod Chunks
+pub mod State
+pub mod Track
+pub mod Submissions
+pub mod Tree
+pub mod Ends
+pub mod Opens
+pub mod Finishes
+pub mod Begins
+pub mod Tickets
+pub mod Removes
+pub mod Asks
+pub mod Calls
+pub mod Events
+pub mod History
+pub mod Promise
