@@ -42,7 +42,7 @@ use Rattle.rules.specs.Finishes.{readied, flushed, owned, by-entry, unspent, at
 use Rattle.rules.specs.Begins.{Begun, Syncing, Options, new-ticket, last-offset, last-word, ticket-room, writing, write-refused, write-begun, write-sized, size-refused, resize-begun, resize-refused, sync-begun, sync-refused}
 use Rattle.rules.specs.Tickets.{Ran, ran, resized, live-hint, hint-after, finish-it, spoil, flush-succeeded, flush-failed, abandoned, Held, on-ticket, its-opening, as-begun, transferred, unless-failed, resize-answered, run-step, end-answered, start-step, end-step}
 use Rattle.rules.specs.Removes.{forget-name, forget-partition, removal-flushed, name-unbound, remove-name-checked, partition-unbound, remove-partition-checked}
-use Rattle.rules.specs.Track.{is-dirty}
+use Rattle.rules.specs.Track.{is-dirty, up}
 use Rattle.rules.specs.Asks.{read-answered}
 use Rattle.rules.specs.Calls.{Call, rule, stage-of, to-open, to-finish, to-give-up, to-close, to-write, to-resize, to-sync, to-run, to-start, to-end, to-abandon, to-remove-name, to-remove-partition, to-count, to-share, to-list, to-read}
 use Rattle.laws.specs.Every.{Every}
@@ -186,7 +186,7 @@ transfers : (s : State) → WithinReach s → (t n : ℕ) (a : Account) (w : Wri
 transfers s h t n a w (landed count hint) =
     let s′ = change s n (hint-after (live-hint a w) hint) in
     either Keeps (w .fused) (spend s′ h t n (Ok (ran count)))
-    (either Keeps (w .sync) (changed (s .tickets) t _ h (fit-flush n (a .tracker .completed + 1))) (spend (change s′ n finish-it) h t n (Ok (ran count))))
+    (either Keeps (w .sync) (changed (s .tickets) t _ h (fit-flush n (up (a .tracker .completed)))) (spend (change s′ n finish-it) h t n (Ok (ran count))))
 transfers s h t n a w (lost l hint) = spoils (w .fused)
   where
     s′ : State
@@ -265,7 +265,7 @@ calls s (to-give-up n) h = stages s h owing-stage _ (λ _. end s h n _) (s .open
 calls s (to-close n) h = stages s h blob-stage _ (λ _. end s h n _) (s .openings .at n)
 calls s (to-write n at body lengths x) h = stages s h blob-stage _ (λ o. writes-sized s h n o at (length body) lengths x (size-refused o at (length body) lengths)) (s .openings .at n)
 calls s (to-resize n size) h = stages s h blob-stage _ (λ o. resizes-begun s h n o size (resize-refused s o size)) (s .openings .at n)
-calls s (to-sync n) h = stages s h blob-stage _ (λ o. syncs-begun s h n o (sync-refused o)) (s .openings .at n)
+calls s (to-sync n) h = stages s h blob-stage _ (λ o. syncs-begun s h n o (sync-refused s o)) (s .openings .at n)
 calls s (to-run t body lengths) h = tickets s h _ (λ x. steps s h t (x .of) (x .opening .account) body lengths (x .step)) (its-opening s (s .tickets .at t))
 calls s (to-start t) h = tickets s h _ (λ x. starts s h t (x .of) (x .opening .account) (x .step)) (its-opening s (s .tickets .at t))
 calls s (to-end t) h = tickets s h _ (λ x. end-steps s h t (x .of) (x .opening .account) (x .step)) (its-opening s (s .tickets .at t))

@@ -144,11 +144,11 @@ NoRoom s for-none = ⊥
 abbrev pub OfAccount : State → ℕ → (Account → Type 0) → Type 0
 OfAccount s n P = (o : Opening) × (s .openings .at n ≡ Some o) × P (o .account)
 
--- no number is left for it
+-- no number is left for it; the last of all tickets has the largest number of 64 bits
 abbrev pub NoNumber : State → Want → Type 0
 NoNumber s (for-opening q) = 1000000 ≤ s .admitted
-NoNumber s (for-mutation n) = OfAccount s n (λ a. 16000000 ≤ a .mutations)
-NoNumber s (for-sync n) = OfAccount s n (λ a. 16000000 ≤ a .syncs)
+NoNumber s (for-mutation n) = OfAccount s n (λ a. 16000000 ≤ a .mutations) ⊎ (18446744073709551615 ≤ s .given)
+NoNumber s (for-sync n) = OfAccount s n (λ a. 16000000 ≤ a .syncs) ⊎ (18446744073709551615 ≤ s .given)
 NoNumber s for-none = ⊥
 
 -- the call finishes an opening whose predecessor has a ticket out

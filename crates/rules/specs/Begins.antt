@@ -18,7 +18,7 @@ use Rattle.rules.specs.declared.ticket.Step.the-variants.{Write, Resize, Flush
 use Rattle.rules.specs.declared.ticket.Writing.{Writing}
 use Rattle.rules.specs.Chunks.{batch, chunks, sizes-ok}
 use Rattle.rules.specs.State.{Opening, State, with-ticket, with-given, with-tracker, with-mutations, with-syncs, with-out}
-use Rattle.rules.specs.Track.{begun, is-dirty}
+use Rattle.rules.specs.Track.{begun, is-dirty, up}
 use Rattle.rules.specs.Tree.{Prog, done}
 use Rattle.rules.specs.Ends.{change}
 use Rattle.rules.specs.Opens.{unless}
@@ -43,6 +43,10 @@ last-word = 18446744073709551615
 abbrev pub last-offset : ℕ
 last-offset = 9223372036854775807
 
+-- so many begun in the opening leave one more, and there is a number for a ticket
+abbrev pub one-left : State → ℕ → Bool
+one-left s begun = ltb begun most-begun && ltb (s .given) last-word
+
 -- ---- a ticket is given
 
 abbrev pub new-ticket : State → ℕ
@@ -50,7 +54,7 @@ new-ticket s = s .given + 1
 
 abbrev pub give : State → ℕ → Step → (Account → Account) → State
 give s n step f =
-    with-given (with-ticket (change s n (λ a. f (with-out a (a .out + 1)))) (new-ticket s) (Some (record { opening = n; step = step }))) (new-ticket s)
+    with-given (with-ticket (change s n (λ a. f (with-out a (up (a .out))))) (new-ticket s) (Some (record { opening = n; step = step }))) (new-ticket s)
 
 -- a mutation is begun, and counted unless it is fused
 abbrev pub mutation-begun : Bool → Account → Account
@@ -82,7 +86,7 @@ abbrev pub write-refused : State → Opening → ℕ → ℕ → Options → Opt
 write-refused s o place size x =
     unless (leb (place + o .account .offset + size) last-offset) OffsetOverflow
     (or-else (kept-refusal (x .sync) o)
-    (unless (ltb (o .account .mutations) most-begun) Exhausted
+    (unless (one-left s (o .account .mutations)) Exhausted
     (unless (ticket-room s) Full None)))
 
 abbrev pub write-begun : State → ℕ → Opening → ℕ → ℕ → List ℕ → Options → Option Fault → Result Begun Fault × State
@@ -112,7 +116,7 @@ write-rule s n place size lengths x = at-stage s blob-stage (write-open s n plac
 abbrev pub resize-refused : State → Opening → ℕ → Option Fault
 resize-refused s o size =
     unless (leb (size + o .account .offset) last-word) OffsetOverflow
-    (unless (ltb (o .account .mutations) most-begun) Exhausted
+    (unless (one-left s (o .account .mutations)) Exhausted
     (unless (ticket-room s) Full None))
 
 abbrev pub resize-begun : State → ℕ → Opening → ℕ → Option Fault → Result ℕ Fault × State
@@ -129,11 +133,11 @@ pub data Syncing : Type 0 where
   counted : ℕ → Syncing
   skipped : Syncing
 
-abbrev pub sync-refused : Opening → Option Fault
-sync-refused o = or-else (mapped refusal (o .account .tracker .failure)) (unless (ltb (o .account .syncs) most-begun) Exhausted None)
+abbrev pub sync-refused : State → Opening → Option Fault
+sync-refused s o = or-else (mapped refusal (o .account .tracker .failure)) (unless (one-left s (o .account .syncs)) Exhausted None)
 
 abbrev pub sync-skipped : Account → Account
-sync-skipped a = with-syncs a (a .syncs + 1) (a .skipped + 1)
+sync-skipped a = with-syncs a (a .syncs + 1) (up (a .skipped))
 
 abbrev pub sync-counted : Account → Account
 sync-counted a = with-syncs a (a .syncs + 1) (a .skipped)
@@ -147,4 +151,4 @@ sync-begun s n o None =
     (Ok skipped, change s n sync-skipped)
 
 abbrev pub sync-rule : State → ℕ → Prog (Result Syncing Fault × State)
-sync-rule s n = at-stage s blob-stage (λ o. done (sync-begun s n o (sync-refused o))) (s .openings .at n)
+sync-rule s n = at-stage s blob-stage (λ o. done (sync-begun s n o (sync-refused s o))) (s .openings .at n)

@@ -27,7 +27,7 @@ use Rattle.rules.specs.declared.ticket.Writing.{Writing}
 use Rattle.rules.specs.Chunks.{chunks, sizes-ok}
 use Rattle.rules.specs.Submissions.{Transfer, Outcome, landed, lost, Loss, loss-refusal, loss-failure}
 use Rattle.rules.specs.State.{Opening, State, with-ticket, with-tracker, with-hinting, with-flushing}
-use Rattle.rules.specs.Track.{begun, finished, credited, poisoned}
+use Rattle.rules.specs.Track.{begun, finished, credited, poisoned, up}
 use Rattle.rules.specs.Tree.{Prog, done, ask, submit}
 use Rattle.rules.specs.Ends.{change, spend-rule}
 use Rattle.rules.specs.Finishes.{keep}
@@ -92,7 +92,7 @@ spoil l a = with-tracker a (poisoned (begun (a .tracker)) (loss-failure l))
 
 -- an unfused SYNC write that has landed counts its flush, its own finish among it
 abbrev pub flush-next : State → ℕ → ℕ → Account → ℕ → Prog Out
-flush-next s t n a count = done (Ok (flush count), with-ticket s t (Some (record { opening = n; step = Flush (a .tracker .completed + 1) })))
+flush-next s t n a count = done (Ok (flush count), with-ticket s t (Some (record { opening = n; step = Flush (up (a .tracker .completed)) })))
 
 abbrev pub landed-rule : State → ℕ → ℕ → Account → Writing → ℕ → Prog Out
 landed-rule s t n a w count =
