@@ -18,9 +18,12 @@ use Rattle.keys.specs.Keys.{KeyName, same-key}
 use Rattle.keys.proofs.Same.{same-key-decides}
 use Rattle.disk.specs.Files.{FileState, DiskState, Unbound, put, kept, with-holds, with-key, new-file}
 use Rattle.disk.specs.Rules.{unnamed, unnamed-by, NoneBound}
-use Rattle.flat.specs.declared.slot.FileSlot.{FileSlot}
-use Rattle.flat.specs.Places.{meaning-of, InOrder, key-in, told-by, bound-by, Distinct}
-use Rattle.flat.specs.Steps.{held, edited, close, open-fault, no-room, open-old, open-new, open-by, first-bound, first-free, unbind}
+use Rattle.slots.specs.declared.slot.FileSlot.{FileSlot}
+use Rattle.slots.specs.Told.{told-by}
+use Rattle.slots.specs.FileSteps.{held}
+use Rattle.slots.specs.Codes.{open-fault, no-room}
+use Rattle.flat.specs.Places.{meaning-of, InOrder, key-in, bound-by, Distinct}
+use Rattle.flat.specs.Steps.{edited, close, open-old, open-new, open-by, first-bound, first-free, unbind}
 use Rattle.flat.proofs.Firsts.{Finds, first-finds}
 use Rattle.flat.proofs.Rows.{never, past, eight, key-kept}
 use Rattle.flat.proofs.Lifts.{Keeps}

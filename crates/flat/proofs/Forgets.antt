@@ -14,9 +14,9 @@ use Rattle.std.proofs.shelf.Edits.{map-over-more}
 use Rattle.keys.specs.Keys.{KeyName}
 use Rattle.disk.specs.Files.{FileState, kept, with-key}
 use Rattle.disk.specs.Rules.{unnamed, unbound}
-use Rattle.flat.specs.declared.slot.FileSlot.{FileSlot}
-use Rattle.flat.specs.Slots.{state}
-use Rattle.flat.specs.Edits.{forgot}
+use Rattle.slots.specs.declared.slot.FileSlot.{FileSlot}
+use Rattle.slots.specs.Slots.{state}
+use Rattle.slots.specs.Told.{forgot}
 use Rattle.flat.specs.Places.{live, files-of, meaning-of}
 use Rattle.flat.proofs.Rows.{kept-bound}
 

@@ -28,11 +28,13 @@ use Rattle.disk.specs.Paths.{durable}
 use Rattle.disk.specs.Files.{FileState, DiskState, Held, Unbound, Valid, put, with-holds}
 use Rattle.disk.specs.Requests.{Request, ask-open, ask-close, ask-length, ask-read, ask-write, ask-resize, ask-start, ask-end, ask-header, ask-flush-directory, ask-flush-root, ask-unbind, ask-unbind-partition}
 use Rattle.disk.specs.Rules.{DiskRules, OpenRule, LengthRule, ReadRule, WriteRule, ResizeRule, EndRule, HeaderRule, FlushRule, UnbindRule, UnbindPartitionRule, SomeBound, Fails, Interrupted, spoiled, unnamed, unnamed-by, unbound, in-partition}
-use Rattle.flat.specs.declared.slot.FileSlot.{FileSlot}
-use Rattle.flat.specs.Slots.{state}
+use Rattle.slots.specs.declared.slot.FileSlot.{FileSlot}
+use Rattle.slots.specs.Slots.{state}
+use Rattle.slots.specs.Plans.{is-code, planned-if, planned, planned-unbind, landing}
+use Rattle.slots.specs.Codes.{open-fault, write-fault, flush-fault, resize-fault, length-fault, unbind-fault, no-room}
+use Rattle.slots.specs.FileSteps.{held, full, fits, write-refused, write-answer, after-write, resize-answer, after-resize, header-answer, after-header, end-answer, after-end}
 use Rattle.flat.specs.Places.{live, files-of, meaning-of, key-in, bound-by, is-free, Distinct}
-use Rattle.flat.specs.Plans.{is-code, planned-if, planned, planned-unbind, landing}
-use Rattle.flat.specs.Steps.{open-fault, write-fault, flush-fault, resize-fault, length-fault, unbind-fault, no-room, unless, held, asked, edited, full, fits, write-refused, write-answer, after-write, resize-answer, after-resize, header-answer, after-header, end-answer, after-end, close, mark-of, write, open-held, open-old, open-new, open-by, first-bound, first-free, unbind, does}
+use Rattle.flat.specs.Steps.{unless, asked, edited, close, mark-of, write, open-held, open-old, open-new, open-by, first-bound, first-free, unbind, does}
 use Rattle.flat.proofs.Rows.{never, kept-is}
 use Rattle.flat.proofs.Firsts.{Finds, first-finds}
 use Rattle.flat.proofs.Lifts.{put-same, bound-some}

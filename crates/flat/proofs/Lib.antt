@@ -1,5 +1,3 @@
-pub mod Lays
-pub mod Outs
 pub mod Firsts
 pub mod Rows
 pub mod Forgets

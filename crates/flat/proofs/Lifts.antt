@@ -21,11 +21,13 @@ use Rattle.faults.specs.declared.disk.ResizeFault.{ResizeFault}
 use Rattle.faults.specs.declared.disk.FlushFault.{FlushFault}
 use Rattle.keys.specs.Keys.{KeyName, key-name}
 use Rattle.disk.specs.Files.{FileState, DiskState, put, kept, with-holds, new-file}
-use Rattle.flat.specs.declared.slot.FileSlot.{FileSlot}
-use Rattle.flat.specs.Slots.{state}
-use Rattle.flat.specs.Edits.{forgot}
-use Rattle.flat.specs.Places.{live, files-of, meaning-of, told-by, bound-by}
-use Rattle.flat.specs.Steps.{asked, edited, held, close, mark-of, open-fault, no-room, open-old, open-new, unbind, after-write, after-resize, after-header, after-end}
+use Rattle.slots.specs.declared.slot.FileSlot.{FileSlot}
+use Rattle.slots.specs.Slots.{state}
+use Rattle.slots.specs.Told.{told-by, forgot}
+use Rattle.slots.specs.FileSteps.{held, after-write, after-resize, after-header, after-end}
+use Rattle.slots.specs.Codes.{open-fault, no-room}
+use Rattle.flat.specs.Places.{live, files-of, meaning-of, bound-by}
+use Rattle.flat.specs.Steps.{asked, edited, close, mark-of, open-old, open-new, unbind}
 use Rattle.flat.specs.Found.{HeldAt}
 use Rattle.flat.proofs.Rows.{here, meaning-set, kept-held, kept-is}
 use Rattle.flat.proofs.Forgets.{forgot-all}

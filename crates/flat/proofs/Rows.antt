@@ -20,10 +20,10 @@ use Rattle.std.proofs.shelf.Ways.{tells}
 use Rattle.keys.specs.Keys.{KeyName}
 use Rattle.disk.specs.Files.{FileState, put, kept}
 use Rattle.table.specs.Numbers.{Place}
-use Rattle.flat.specs.declared.slot.FileSlot.{FileSlot}
-use Rattle.flat.specs.Slots.{state, number-of}
+use Rattle.slots.specs.declared.slot.FileSlot.{FileSlot}
+use Rattle.slots.specs.Slots.{state, number-of}
+use Rattle.slots.specs.FileSteps.{held}
 use Rattle.flat.specs.Places.{live, files-of, meaning-of, numbers, InOrder, key-in, is-free}
-use Rattle.flat.specs.Steps.{held}
 
 -- ---- what is kept of a file
 

@@ -2,8 +2,8 @@
 use mathlib.Core.Path.{_≡_}
 use Rattle.disk.specs.Files.{DiskState}
 use Rattle.disk.specs.Requests.{Request, Answer}
+use Rattle.slots.specs.Plans.{rest}
 use Rattle.flat.specs.Places.{meaning-of}
-use Rattle.flat.specs.Plans.{rest}
 use Rattle.flat.specs.Steps.{Flat, step}
 use Rattle.flat.specs.declared.memory.FlatDisk.{FlatDisk}
 

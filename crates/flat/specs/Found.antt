@@ -4,7 +4,7 @@ use Prim.Native.Nat.{ℕ, _<_}
 use Rattle.std.specs.declared.option.Option.{Option}
 use Rattle.std.specs.declared.option.Option.the-variants.{Some, None}
 use Rattle.disk.specs.Files.{FileState, DiskState}
-use Rattle.flat.specs.Steps.{held}
+use Rattle.slots.specs.FileSteps.{held}
 
 -- the place of the file f, which is its number, where it is held
 abbrev pub HeldAt : DiskState → ℕ → Option ℕ → Type 0

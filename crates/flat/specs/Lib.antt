@@ -1,9 +1,5 @@
-pub mod Slots
 pub mod Places
-pub mod Edits
-pub mod Plans
 pub mod Rows
 pub mod Steps
 pub mod Found
-pub mod Views
 pub mod Flat

@@ -9,8 +9,9 @@ use Rattle.std.specs.declared.option.Option.{Option}
 use Rattle.std.specs.declared.option.Option.the-variants.{Some, None}
 use Rattle.keys.specs.Keys.{KeyName}
 use Rattle.disk.specs.Files.{FileState, DiskState, kept}
-use Rattle.flat.specs.declared.slot.FileSlot.{FileSlot}
-use Rattle.flat.specs.Slots.{state, number-of}
+use Rattle.slots.specs.declared.slot.FileSlot.{FileSlot}
+use Rattle.slots.specs.Slots.{state, number-of}
+use Rattle.slots.specs.Told.{told-by}
 
 -- a place past the last has no file, nor has one whose file is neither held nor bound
 abbrev pub live : Option FileState → Option FileState
@@ -50,11 +51,6 @@ Distinct s = (f g : ℕ) → Shared (key-in (s f)) (key-in (s g)) → f ≡ g
 unfoldable pub first-from : (Option FileState → Bool) → DiskState → ℕ → ℕ → Option ℕ
 first-from test s i zero = None
 first-from test s i (suc m) = cond (test (s i)) (Some i) (first-from test s (suc i) m)
-
--- whether a key is told
-abbrev pub told-by : (KeyName → Bool) → Option KeyName → Bool
-told-by tells None = false
-told-by tells (Some q) = tells q
 
 -- whether there is a file bound to a key that is told
 abbrev pub bound-by : (KeyName → Bool) → Option FileState → Bool

@@ -1,6 +1,6 @@
 -- The files as a row of slots. Assumes nothing.
 use mathlib.Core.List.{List}
-use Rattle.flat.specs.declared.slot.FileSlot.{FileSlot}
+use Rattle.slots.specs.declared.slot.FileSlot.{FileSlot}
 use Rattle.flat.specs.declared.files.Files.{Files}
 
 -- the slots, in order

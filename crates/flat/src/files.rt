@@ -1,5 +1,5 @@
 // The eight files. This struct has no ghost field, so that one of its slots can be lent.
-use crate::slot::FileSlot;
+use slots::FileSlot;
 
 // Few, so that a disk without a free number is met soon.
 const FILES: usize = 8;

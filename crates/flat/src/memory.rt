@@ -2,7 +2,7 @@
 ghost use Rattle.flat.specs.Places.{meaning-of, InOrder, Distinct};
 ghost use Rattle.flat.specs.Rows.{slots};
 use crate::files::Files;
-use crate::plan::Plan;
+use slots::Plan;
 
 #[derive(Drop)]
 pub struct FlatDisk {

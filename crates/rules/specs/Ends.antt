@@ -41,9 +41,16 @@ registered n e = cond (eqb (e .opening) n && not (isSome (e .unsettled))) (recor
 abbrev pub settled : ℕ → Tracker → Entry → Entry
 settled n t e = cond (is-number (e .unsettled) n) (record { opening = e .opening; unsettled = None; dirty = e .dirty || is-dirty t; failure = first (t .failure) (e .failure) }) e
 
--- its place is free once it is clear and its opening has ended, as n has
+-- its place is free once it is clear and its opening has ended
+abbrev pub unless-free-if : Bool → Entry → Option Entry
+unless-free-if over e = cond (clear e && over) None (Some e)
+
+-- whether the opening m has ended, as n has
+abbrev pub is-over : State → ℕ → ℕ → Bool
+is-over s n m = eqb m n || not (live s m)
+
 abbrev pub unless-free : State → ℕ → Entry → Option Entry
-unless-free s n e = cond (clear e && (eqb (e .opening) n || not (live s (e .opening)))) None (Some e)
+unless-free s n e = unless-free-if (is-over s n (e .opening)) e
 
 abbrev pub after-settling : State → ℕ → Tracker → Option Entry → Option Entry
 after-settling s n t None = None

@@ -77,6 +77,10 @@ soiled (Some e) = e .dirty
 abbrev pub owes : Option Entry → Bool
 owes was = isSome (waits was) || soiled was
 
+-- the entry of a new opening takes over what earlier ones left, but no failure
+abbrev pub new-entry : ℕ → Option Entry → Entry
+new-entry n was = record { opening = n; unsettled = waits was; dirty = soiled was; failure = None }
+
 abbrev pub new-account : ℕ → ℕ → Option Entry → Account
 new-account file offset was = record { file = file; offset = offset; stage = cond (owes was) Owing Blob; tracker = untouched; predecessor = waits was; out = 0; hinting = true; flushing = false; mutations = 0; syncs = 0; skipped = 0 }
 
@@ -88,7 +92,7 @@ abbrev pub admit : State → KeyName → ℕ → ℕ → Option Entry → State
 admit s q file offset was =
     with-admitted
     (with-opening
-    (with-name s q (Some (record { opening = new-number s; unsettled = waits was; dirty = soiled was; failure = None })))
+    (with-name s q (Some (new-entry (new-number s) was)))
     (new-number s) (Some (record { key = q; account = new-account file offset was })))
     (new-number s)
 

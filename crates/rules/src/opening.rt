@@ -1,4 +1,6 @@
 // One opening of a blob.
+ghost use mathlib.Core.Path.{_≡_};
+ghost use Rattle.rules.specs.State.{is-blob, is-ended, is-owing};
 use crate::tracker::Tracker;
 
 // Whether the name has a header already.
@@ -16,6 +18,35 @@ pub enum Stage {
     Blob,
     // It was closed or given up, and waits for its tickets.
     Ended,
+}
+
+impl Stage {
+    pub fn is_owing(self) -> bool
+        ensures { λ r. ⌜ r ≡ is-owing self ⌝ }
+    {
+        match self {
+            Stage::Owing => true,
+            Stage::Blob | Stage::Ended => false,
+        }
+    }
+
+    pub fn is_blob(self) -> bool
+        ensures { λ r. ⌜ r ≡ is-blob self ⌝ }
+    {
+        match self {
+            Stage::Blob => true,
+            Stage::Owing | Stage::Ended => false,
+        }
+    }
+
+    pub fn is_ended(self) -> bool
+        ensures { λ r. ⌜ r ≡ is-ended self ⌝ }
+    {
+        match self {
+            Stage::Ended => true,
+            Stage::Owing | Stage::Blob => false,
+        }
+    }
 }
 
 // What an opening has besides its key.

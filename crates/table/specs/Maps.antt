@@ -1,9 +1,11 @@
 -- A table as a map from keys to values, with the keys that have a place, in the order in which they got it. Assumes nothing.
-use mathlib.Core.Bool.{Bool, cond}
+use mathlib.Core.Bool.{Bool, cond, _||_}
 use mathlib.Core.List.{List, [], _∷_, _++_}
 use Prim.Native.Nat.{ℕ}
+use lib.Dec.{ltb}
 use lib.ListN.{length}
 use Rattle.std.specs.Finite.{update}
+use Rattle.std.specs.Options.{isSome}
 use Rattle.std.specs.declared.option.Option.{Option}
 use Rattle.std.specs.declared.option.Option.the-variants.{Some, None}
 
@@ -14,6 +16,10 @@ pub record Map (K X : Type 0) : Type 0 where
 -- how many places are taken
 abbrev pub taken : {K X : Type 0} → Map K X → ℕ
 taken m = length (m .keys)
+
+-- whether k has a place or gets one, where there are n places
+abbrev pub fits : {K X : Type 0} → ℕ → Map K X → K → Bool
+fits n m k = isSome (m .at k) || ltb (taken m) n
 
 -- the keys that are not told
 abbrev pub others : {K : Type 0} → (K → Bool) → List K → List K

@@ -1,7 +1,15 @@
-// Things that are looked up by a number, and the one search for them.
+// Things that are looked up by a number, the one search for them, and a table of them that never grows.
 ghost use mathlib.Core.Path.{_≡_};
 ghost use Prim.Native.Nat.{ℕ};
 ghost use Rattle.table.specs.Numbers.{Place};
+
+pub mod base;
+pub mod slot;
+
+pub use base::Table;
+
+#[cfg(test)]
+mod tests;
 
 // What has a number that it is looked up by.
 pub trait Numbered {

@@ -6,18 +6,18 @@ ghost use lib.ListN.{length};
 ghost use Rattle.std.specs.Options.{Cases, mapped};
 ghost use Rattle.std.specs.Slices.{found};
 ghost use Rattle.keys.specs.Keys.{key-name};
-ghost use Rattle.flat.specs.Slots.{state};
-ghost use Rattle.flat.specs.Edits.{forgot};
+ghost use Rattle.slots.specs.Slots.{state};
+ghost use Rattle.slots.specs.Told.{forgot};
+ghost use Rattle.slots.specs.Views.{seen};
 ghost use Rattle.flat.specs.Places.{meaning-of, numbers, InOrder, key-in, first-from, bound-by, is-free};
-ghost use Rattle.flat.specs.Views.{seen};
 ghost use Rattle.flat.specs.Steps.{first-bound, first-free};
 ghost use Rattle.flat.specs.Found.{HeldAt};
 use super::Files;
-use crate::slot::FileSlot;
-use crate::slot::keyed::FileSlotNumbered;
-use crate::slot::keyed::Tells;
-use crate::view::FileView;
 use keys::Key;
+use slots::FileSlot;
+use slots::FileSlotNumbered;
+use slots::FileView;
+use slots::Tells;
 use table::position;
 
 // The first place of a key that is told.

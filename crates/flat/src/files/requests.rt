@@ -6,15 +6,11 @@ ghost use Rattle.keys.specs.Keys.{key-name, same-key};
 ghost use Rattle.disk.specs.Offsets.{place};
 ghost use Rattle.disk.specs.Paths.{durable};
 ghost use Rattle.disk.specs.Requests.{read-out, Spares};
+ghost use Rattle.slots.specs.FileSteps.{held, write-answer, after-write, resize-answer, after-resize, header-answer, after-header, end-answer, after-end};
+ghost use Rattle.slots.specs.Codes.{length-fault, write-fault, resize-fault, flush-fault};
 ghost use Rattle.flat.specs.Places.{meaning-of, numbers, InOrder};
-ghost use Rattle.flat.specs.Steps.{asked, edited, held, close, mark-of, open-by, unbind, first-bound, length-fault, write-fault, resize-fault, flush-fault, write-answer, after-write, resize-answer, after-resize, header-answer, after-header, end-answer, after-end};
+ghost use Rattle.flat.specs.Steps.{asked, edited, close, mark-of, open-by, unbind, first-bound};
 use super::Files;
-use crate::codes::EBADF;
-use crate::codes::ENOENT;
-use crate::codes::ENOSPC;
-use crate::slot::FileSlot;
-use crate::slot::keyed::KeyTells;
-use crate::slot::keyed::Tells;
 use disk::FileOffset;
 use disk::Path;
 use faults::DiskFault;
@@ -25,6 +21,12 @@ use faults::ResizeFault;
 use faults::UnbindFault;
 use faults::WriteFault;
 use keys::Key;
+use slots::FileSlot;
+use slots::KeyTells;
+use slots::Tells;
+use slots::codes::EBADF;
+use slots::codes::ENOENT;
+use slots::codes::ENOSPC;
 
 impl Files {
     pub(crate) fn new() -> Files

@@ -5,15 +5,11 @@ ghost use Rattle.std.specs.Options.{mapped};
 ghost use Rattle.std.specs.declared.option.Option.the-variants.{None};
 ghost use Rattle.keys.specs.Keys.{key-name};
 ghost use Rattle.disk.specs.Requests.{ask-flush-root};
+ghost use Rattle.slots.specs.Views.{seen};
 ghost use Rattle.flat.specs.Places.{key-in};
-ghost use Rattle.flat.specs.Views.{seen};
 ghost use Rattle.flat.specs.Flat.{flat-meaning, flat-of, FlatDid};
 use super::FlatDisk;
 use crate::files::Files;
-use crate::plan::Plan;
-use crate::slot::keyed::KeyTells;
-use crate::slot::keyed::PartitionTells;
-use crate::view::FileView;
 use disk::Disk;
 use disk::FileOffset;
 use disk::Path;
@@ -25,6 +21,10 @@ use faults::UnbindFault;
 use faults::WriteFault;
 use keys::Key;
 use keys::Partition;
+use slots::FileView;
+use slots::KeyTells;
+use slots::PartitionTells;
+use slots::Plan;
 
 impl FlatDisk {
     // No file, and this plan.

@@ -1,8 +1,9 @@
 use Prim.Native.Nat.{_<_}
+use Rattle.slots.specs.Slots.{state}
+use Rattle.slots.specs.Codes.{write-fault}
+use Rattle.slots.specs.FileSteps.{header-answer, after-header}
 use Rattle.flat.proofs.Lifts.{edits, keeps-header}
 use Rattle.flat.proofs.Rows.{numbers-set}
-use Rattle.flat.specs.Slots.{state}
-use Rattle.flat.specs.Steps.{write-fault, header-answer, after-header}
 use borrow.Author.Needs.{needs}
 use lib.ListN.{getD}
 use lib.ListN.{length}

@@ -3,9 +3,9 @@ use Prim.Native.Nat.{_<_}
 use lib.ListN.{length, getD}
 use native.Mathlib.Omega.{arith}
 use borrow.Author.Tests.{ltb-true}
-use Rattle.flat.specs.Slots.{state}
+use Rattle.slots.specs.Slots.{state}
+use Rattle.slots.specs.FileSteps.{held}
 use Rattle.flat.specs.Places.{meaning-of}
-use Rattle.flat.specs.Steps.{held}
 use Rattle.flat.proofs.Rows.{here, past, eight, kept-held, unheld-kept}
 use Rattle.flat.proofs.files.Files.held.Needs as need
 

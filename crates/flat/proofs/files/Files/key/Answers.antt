@@ -2,7 +2,7 @@ use mathlib.Core.Path.{sym, ap, _∙_}
 use Prim.Native.Nat.{_<_}
 use lib.ListN.{length, getD}
 use native.Mathlib.Omega.{arith}
-use Rattle.flat.specs.Slots.{state}
+use Rattle.slots.specs.Slots.{state}
 use Rattle.flat.specs.Places.{meaning-of, key-in}
 use Rattle.flat.proofs.Rows.{here, past, eight, key-kept}
 use Rattle.flat.proofs.files.Files.key.Needs as need

@@ -1,6 +1,6 @@
 use Prim.Native.Nat.{_<_}
+use Rattle.slots.specs.Codes.{length-fault}
 use Rattle.flat.proofs.Lifts.{asks}
-use Rattle.flat.specs.Steps.{length-fault}
 use borrow.Author.Needs.{needs}
 use lib.ListN.{length}
 use Rattle.flat.proofs.files.Files.length.Needs as need

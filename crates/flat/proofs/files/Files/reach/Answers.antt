@@ -1,7 +1,8 @@
 use Prim.Native.Nat.{_<_}
+use Rattle.slots.specs.Codes.{flush-fault}
+use Rattle.slots.specs.FileSteps.{end-answer, after-end}
 use Rattle.flat.proofs.Lifts.{edits}
 use Rattle.flat.proofs.Rows.{numbers-set}
-use Rattle.flat.specs.Steps.{flush-fault, end-answer, after-end}
 use Rattle.std.specs.declared.result.Result.the-variants.{Ok}
 use borrow.Author.Needs.{needs}
 use lib.ListN.{length}

@@ -1,10 +1,10 @@
 use Prim.Native.Nat.{_-_, min}
 use Prim.Native.Nat.{_<_}
 use Rattle.disk.specs.Offsets.{place}
+use Rattle.slots.proofs.Outs.{out-got, out-spares}
+use Rattle.slots.specs.Slots.{content}
+use Rattle.slots.specs.Codes.{length-fault}
 use Rattle.flat.proofs.Lifts.{asks}
-use Rattle.flat.proofs.Outs.{out-got, out-spares}
-use Rattle.flat.specs.Slots.{content}
-use Rattle.flat.specs.Steps.{length-fault}
 use borrow.Author.Needs.{needs}
 use lib.ListN.{length}
 use lib.ListN.{take, drop, getD}

@@ -1,9 +1,10 @@
 use Prim.Native.Nat.{_<_}
 use Rattle.disk.specs.Offsets.{place}
+use Rattle.slots.specs.Slots.{state}
+use Rattle.slots.specs.Codes.{resize-fault}
+use Rattle.slots.specs.FileSteps.{resize-answer, after-resize}
 use Rattle.flat.proofs.Lifts.{edits, keeps-resize}
 use Rattle.flat.proofs.Rows.{numbers-set}
-use Rattle.flat.specs.Slots.{state}
-use Rattle.flat.specs.Steps.{resize-fault, resize-answer, after-resize}
 use borrow.Author.Needs.{needs}
 use lib.ListN.{getD}
 use lib.ListN.{length}

@@ -4,9 +4,9 @@ use Prim.Native.Nat.{_<_}
 use lib.ListN.{length, getD}
 use native.Mathlib.Omega.{arith}
 use Rattle.std.specs.declared.option.Option.the-variants.{Some, None}
-use Rattle.flat.specs.Slots.{state}
+use Rattle.slots.specs.Slots.{state}
+use Rattle.slots.specs.Views.{shown}
 use Rattle.flat.specs.Places.{meaning-of, key-in}
-use Rattle.flat.specs.Views.{shown}
 use Rattle.flat.proofs.Rows.{here, past, eight, key-kept}
 use Rattle.flat.proofs.files.Files.view.Needs as need
 

@@ -1,10 +1,11 @@
 use Prim.Native.Nat.{_<_}
 use Rattle.disk.specs.Offsets.{place}
 use Rattle.disk.specs.Paths.{durable}
+use Rattle.slots.specs.Slots.{state}
+use Rattle.slots.specs.Codes.{write-fault}
+use Rattle.slots.specs.FileSteps.{write-answer, after-write}
 use Rattle.flat.proofs.Lifts.{edits, keeps-write}
 use Rattle.flat.proofs.Rows.{numbers-set}
-use Rattle.flat.specs.Slots.{state}
-use Rattle.flat.specs.Steps.{write-fault, write-answer, after-write}
 use borrow.Author.Needs.{needs}
 use lib.ListN.{getD}
 use lib.ListN.{length}

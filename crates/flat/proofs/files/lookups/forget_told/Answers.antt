@@ -5,8 +5,8 @@ use lib.ListN.{length}
 use native.Mathlib.Omega.{arith}
 use borrow.Author.Needs.{needs}
 use Rattle.std.proofs.shelf.Lists.{length-map}
-use Rattle.flat.specs.Slots.{state}
-use Rattle.flat.specs.Edits.{forgot}
+use Rattle.slots.specs.Slots.{state}
+use Rattle.slots.specs.Told.{forgot}
 use Rattle.flat.proofs.Rows.{numbers-set}
 use Rattle.flat.proofs.Forgets.{forget-more, forget-all}
 use Rattle.flat.proofs.files.lookups.forget_told.Needs as need

@@ -1,8 +1,8 @@
 use mathlib.Core.Path.{_≡_}
 use mathlib.Core.List.{map, _++_}
 use lib.ListN.{take, drop}
-use Rattle.flat.specs.Slots.{state}
-use Rattle.flat.specs.Edits.{forgot}
+use Rattle.slots.specs.Slots.{state}
+use Rattle.slots.specs.Told.{forgot}
 use Rattle.flat.specs.Places.{numbers}
 use Rattle.flat.proofs.files.lookups.forget_told.Given as given
 

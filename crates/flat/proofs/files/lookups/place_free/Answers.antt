@@ -6,7 +6,7 @@ use native.Mathlib.Omega.{arith}
 use borrow.Author.Needs.{needs}
 use borrow.Author.Count.{below-more}
 use Rattle.disk.specs.Files.{kept}
-use Rattle.flat.specs.Slots.{state}
+use Rattle.slots.specs.Slots.{state}
 use Rattle.flat.specs.Places.{meaning-of, is-free}
 use Rattle.flat.proofs.Rows.{here, free-kept}
 use Rattle.flat.proofs.Firsts.{first-some, first-none}

@@ -5,8 +5,9 @@ use native.Mathlib.Omega.{arith}
 use borrow.Author.Needs.{needs}
 use borrow.Author.Count.{below-more}
 use Rattle.disk.specs.Files.{kept}
-use Rattle.flat.specs.Slots.{state}
-use Rattle.flat.specs.Places.{meaning-of, told-by, bound-by}
+use Rattle.slots.specs.Slots.{state}
+use Rattle.slots.specs.Told.{told-by}
+use Rattle.flat.specs.Places.{meaning-of, bound-by}
 use Rattle.flat.proofs.Rows.{here, key-kept}
 use Rattle.flat.proofs.Firsts.{first-some, first-none}
 use Rattle.flat.proofs.files.lookups.place_told.Needs as need

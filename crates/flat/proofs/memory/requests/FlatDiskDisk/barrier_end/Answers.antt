@@ -1,7 +1,8 @@
 use mathlib.Core.Path.{sym, ap, subst, _∙_}
+use Rattle.slots.specs.Codes.{flush-fault}
+use Rattle.slots.specs.FileSteps.{end-answer, after-end}
 use Rattle.flat.specs.Flat.{flat-meaning}
 use Rattle.flat.specs.Places.{Distinct}
-use Rattle.flat.specs.Steps.{flush-fault, end-answer, after-end}
 use Rattle.flat.proofs.Lifts.{keeps-end}
 use Rattle.flat.proofs.Distinct.{edited-distinct}
 use Rattle.flat.proofs.memory.requests.FlatDiskDisk.barrier_end.Needs as need

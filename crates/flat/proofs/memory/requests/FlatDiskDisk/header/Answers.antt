@@ -1,8 +1,9 @@
 use mathlib.Core.Path.{sym, ap, subst, _∙_}
 use lib.ListN.{length}
+use Rattle.slots.specs.Codes.{write-fault}
+use Rattle.slots.specs.FileSteps.{header-answer, after-header}
 use Rattle.flat.specs.Flat.{flat-meaning}
 use Rattle.flat.specs.Places.{Distinct}
-use Rattle.flat.specs.Steps.{write-fault, header-answer, after-header}
 use Rattle.flat.proofs.Lifts.{keeps-header}
 use Rattle.flat.proofs.Distinct.{edited-distinct}
 use Rattle.flat.proofs.memory.requests.FlatDiskDisk.header.Needs as need

@@ -1,8 +1,9 @@
 use mathlib.Core.Path.{sym, ap, subst, _∙_}
 use Rattle.disk.specs.Offsets.{place}
+use Rattle.slots.specs.Codes.{resize-fault}
+use Rattle.slots.specs.FileSteps.{resize-answer, after-resize}
 use Rattle.flat.specs.Flat.{flat-meaning}
 use Rattle.flat.specs.Places.{Distinct}
-use Rattle.flat.specs.Steps.{resize-fault, resize-answer, after-resize}
 use Rattle.flat.proofs.Lifts.{keeps-resize}
 use Rattle.flat.proofs.Distinct.{edited-distinct}
 use Rattle.flat.proofs.memory.requests.FlatDiskDisk.resize.Needs as need

@@ -1,7 +1,7 @@
 use mathlib.Core.Path.{sym, subst}
 use Rattle.disk.specs.Rules.{DiskRules}
+use Rattle.slots.specs.Plans.{first, rest}
 use Rattle.flat.specs.Flat.{flat-meaning}
-use Rattle.flat.specs.Plans.{first, rest}
 use Rattle.flat.proofs.Distinct.{small}
 use Rattle.flat.proofs.Laws.{rules, valid}
 use Rattle.flat.proofs.memory.requests.FlatDiskDisk.the-impl.Needs as need

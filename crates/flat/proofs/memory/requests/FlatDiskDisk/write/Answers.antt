@@ -2,9 +2,10 @@ use mathlib.Core.Path.{sym, ap, subst, _∙_}
 use lib.ListN.{length}
 use Rattle.disk.specs.Offsets.{place}
 use Rattle.disk.specs.Paths.{durable}
+use Rattle.slots.specs.Codes.{write-fault}
+use Rattle.slots.specs.FileSteps.{write-answer, after-write}
 use Rattle.flat.specs.Flat.{flat-meaning}
 use Rattle.flat.specs.Places.{Distinct}
-use Rattle.flat.specs.Steps.{write-fault, write-answer, after-write}
 use Rattle.flat.proofs.Lifts.{keeps-write}
 use Rattle.flat.proofs.Distinct.{edited-distinct}
 use Rattle.flat.proofs.memory.requests.FlatDiskDisk.write.Needs as need

@@ -1,0 +1,10 @@
+// The tables of a store: its names, its openings and its tickets, and the counters that number the last two. All memory
+// is had when they are made.
+pub mod open;
+pub mod tables;
+
+pub use open::Open;
+pub use tables::Ledger;
+
+#[cfg(test)]
+mod tests;
