@@ -117,7 +117,7 @@ existing s h q file offset None = either Keeps (owes (s .names .at q)) h (measur
 
 headers : (s : State) → WithinReach s → (q : KeyName) (n file offset : ℕ) (a : Result (Unit {0}) WriteFault) → Keeps (fresh-header s q n file offset a)
 headers s h q n file offset (Ok u) = measures s h n offset
-headers s h q n file offset (Err e) = end (fail-name s q (Header (e .0))) h n (Err (Io (e .0)))
+headers s h q n file offset (Err e) = end (fail-name s q n (Header (e .0))) h n (Err (Io (e .0)))
 
 roots : (s : State) → WithinReach s → (q : KeyName) (n file : ℕ) (header : List ℕ) (a : Result (Unit {0}) WriteFault) → Keeps (fresh-root s q n file header a)
 roots s h q n file header (Ok u) = headers s h q n file (length header)
@@ -146,8 +146,8 @@ readies s h n offset (Ok len) = either Keeps (leb offset len) h (end s h n _)
 readies s h n offset (Err e) = end s h n _
 
 flushes : (s : State) → WithinReach s → (n : ℕ) (o : Opening) (a : Result (Unit {0}) FlushFault) → Keeps (flushed s n o a)
-flushes s h n o (Ok u) = readies (clean-name s (o .key)) h n (o .account .offset)
-flushes s h n o (Err e) = end (change (fail-name s (o .key) (Sync (e .0))) n (keep (Sync (e .0)))) h n (Err (BlobSyncFailed (e .0)))
+flushes s h n o (Ok u) = readies (clean-name s (o .key) n) h n (o .account .offset)
+flushes s h n o (Err e) = end (change (fail-name s (o .key) n (Sync (e .0))) n (keep (Sync (e .0)))) h n (Err (BlobSyncFailed (e .0)))
 
 owns : (s : State) → WithinReach s → (n : ℕ) (o : Opening) (dirty : Bool) (f : Option Failure) → Keeps (owned s n o dirty f)
 owns s h n o dirty (Some f) = end s h n _

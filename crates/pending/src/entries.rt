@@ -87,21 +87,21 @@ impl Pending {
     }
 
     // The debt of a name has been flushed.
-    pub fn clear(&mut self, key: &Key)
-        ensures { λ _. ⌜ entries (now (self .exit)) ≡ put same-key (entries (now (self .entry))) (key-name (now (key .entry))) (mapped cleaned (entries (now (self .entry)) .at (key-name (now (key .entry))))) ⌝ }
+    pub fn clear(&mut self, key: &Key, opening: u64)
+        ensures { λ _. ⌜ entries (now (self .exit)) ≡ put same-key (entries (now (self .entry))) (key-name (now (key .entry))) (mapped (cleaned opening) (entries (now (self .entry)) .at (key-name (now (key .entry))))) ⌝ }
     {
         match self.names.get(key) {
-            Some(entry) => self.names.replace(key, entry.clear()),
+            Some(entry) => self.names.replace(key, entry.clear(opening)),
             None => {}
         }
     }
 
     // Keeps a failure until the name is forgotten.
-    pub fn fail(&mut self, key: &Key, failure: Failure)
-        ensures { λ _. ⌜ entries (now (self .exit)) ≡ put same-key (entries (now (self .entry))) (key-name (now (key .entry))) (mapped (failing failure) (entries (now (self .entry)) .at (key-name (now (key .entry))))) ⌝ }
+    pub fn fail(&mut self, key: &Key, opening: u64, failure: Failure)
+        ensures { λ _. ⌜ entries (now (self .exit)) ≡ put same-key (entries (now (self .entry))) (key-name (now (key .entry))) (mapped (failing opening failure) (entries (now (self .entry)) .at (key-name (now (key .entry))))) ⌝ }
     {
         match self.names.get(key) {
-            Some(entry) => self.names.replace(key, entry.fail(failure)),
+            Some(entry) => self.names.replace(key, entry.fail(opening, failure)),
             None => {}
         }
     }

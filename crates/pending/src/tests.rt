@@ -17,7 +17,7 @@ fn parts(entry: Option<Entry>) -> Option<(u64, Option<u64>, bool)> {
     }
 }
 
-// A dirty opening that ends leaves its debt to the next, which clears it.
+// A dirty opening that ends leaves its debt to the next, and only that one clears it.
 #[test]
 fn debt_is_taken_over(rt: LibcRuntime) -> Result<(), Fail> {
     let mut pending = Pending::new(rt.alloc())?;
@@ -40,7 +40,9 @@ fn debt_is_taken_over(rt: LibcRuntime) -> Result<(), Fail> {
     let was = pending.find(&key);
     check(pending.admit(&key, 2, &was))?;
     check_eq(parts(pending.find(&key)), Some((2, None, true)))?;
-    pending.clear(&key);
+    pending.clear(&key, 1);
+    check_eq(parts(pending.find(&key)), Some((2, None, true)))?;
+    pending.clear(&key, 2);
     check_eq(parts(pending.find(&key)), Some((2, None, false)))
 }
 
@@ -78,7 +80,7 @@ fn names_are_forgotten(rt: LibcRuntime) -> Result<(), Fail> {
     check(pending.admit(&first, 1, &None))?;
     check(pending.admit(&second, 2, &None))?;
     check(pending.admit(&third, 3, &None))?;
-    pending.fail(&second, Failure::Write);
+    pending.fail(&second, 2, Failure::Write);
     pending.forget_partition(&Partition::new(b"p")?);
     check_eq(pending.held(), 1)?;
     match pending.key_at(0) {

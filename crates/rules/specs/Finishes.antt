@@ -40,20 +40,20 @@ readied s n offset (Err e) = end-rule s n (Err ReadFailed)
 abbrev pub ready-rule : State → ℕ → Account → Prog Out
 ready-rule s n a = ask (ask-length (a .file)) (readied s n (a .offset))
 
--- the dirty mark is cleared
-abbrev pub cleaned : Entry → Entry
-cleaned e = record { opening = e .opening; unsettled = e .unsettled; dirty = false; failure = e .failure }
+-- the opening n has flushed the debt: the dirty mark is cleared, if the entry is still its own
+abbrev pub cleaned : ℕ → Entry → Entry
+cleaned n e = cond (eqb (e .opening) n) (record { opening = e .opening; unsettled = e .unsettled; dirty = false; failure = e .failure }) e
 
-abbrev pub clean-name : State → KeyName → State
-clean-name s q = with-name s q (mapped cleaned (s .names .at q))
+abbrev pub clean-name : State → KeyName → ℕ → State
+clean-name s q n = with-name s q (mapped (cleaned n) (s .names .at q))
 
 abbrev pub keep : Failure → Account → Account
 keep f a = with-tracker a (poisoned (a .tracker) f)
 
 -- success clears the mark, and a fault is kept in the entry and in the tracker
 abbrev pub flushed : State → ℕ → Opening → Result (Unit {0}) FlushFault → Prog Out
-flushed s n o (Ok u) = ready-rule (clean-name s (o .key)) n (o .account)
-flushed s n o (Err e) = end-rule (change (fail-name s (o .key) (Sync (e .0))) n (keep (Sync (e .0)))) n (Err (BlobSyncFailed (e .0)))
+flushed s n o (Ok u) = ready-rule (clean-name s (o .key) n) n (o .account)
+flushed s n o (Err e) = end-rule (change (fail-name s (o .key) n (Sync (e .0))) n (keep (Sync (e .0)))) n (Err (BlobSyncFailed (e .0)))
 
 -- the debt is flushed through the new opening's file
 abbrev pub debt-rule : State → ℕ → Opening → Prog Out

@@ -2,7 +2,7 @@
 use mathlib.Core.Bool.{Bool, true, false, cond, not, _&&_, _||_}
 use mathlib.Core.List.{List}
 use Prim.Native.Nat.{ℕ, _+_, _-_}
-use lib.Dec.{leb, ltb}
+use lib.Dec.{eqb, leb, ltb}
 use lib.ListN.{length}
 use Rattle.std.specs.Options.{isSome, mapped}
 use Rattle.std.specs.declared.option.Option.{Option}
@@ -117,16 +117,16 @@ existing-from s q file offset None = yield-rule (admit s q file offset (s .names
 abbrev pub existing-rule : State → KeyName → ℕ → ℕ → Prog Out
 existing-rule s q file offset = existing-from s q file offset (barred s (s .names .at q))
 
--- a failure is kept in the entry
-abbrev pub failing : Failure → Entry → Entry
-failing f e = record { opening = e .opening; unsettled = e .unsettled; dirty = e .dirty; failure = Some f }
+-- a failure of the opening n is kept in the entry, if that is still its own
+abbrev pub failing : ℕ → Failure → Entry → Entry
+failing n f e = cond (eqb (e .opening) n) (record { opening = e .opening; unsettled = e .unsettled; dirty = e .dirty; failure = Some f }) e
 
-abbrev pub fail-name : State → KeyName → Failure → State
-fail-name s q f = with-name s q (mapped (failing f) (s .names .at q))
+abbrev pub fail-name : State → KeyName → ℕ → Failure → State
+fail-name s q n f = with-name s q (mapped (failing n f) (s .names .at q))
 
 abbrev pub fresh-header : State → KeyName → ℕ → ℕ → ℕ → Result (Unit {0}) WriteFault → Prog Out
 fresh-header s q n file offset (Ok u) = measure-rule s n file offset
-fresh-header s q n file offset (Err e) = end-rule (fail-name s q (Header (e .0))) n (Err (Io (e .0)))
+fresh-header s q n file offset (Err e) = end-rule (fail-name s q n (Header (e .0))) n (Err (Io (e .0)))
 
 abbrev pub fresh-root : State → KeyName → ℕ → ℕ → List ℕ → Result (Unit {0}) WriteFault → Prog Out
 fresh-root s q n file header (Ok u) = ask (ask-header file header) (fresh-header s q n file (length header))

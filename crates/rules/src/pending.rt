@@ -110,20 +110,26 @@ impl Entry {
         }
     }
 
-    // The debt has been flushed.
-    pub fn clear(self) -> Entry
-        ensures { λ r. ⌜ r ≡ cleaned self ⌝ }
+    // An opening has flushed the debt, and clears it while the entry is still its own.
+    pub fn clear(self, opening: u64) -> Entry
+        ensures { λ r. ⌜ r ≡ cleaned opening self ⌝ }
     {
+        if self.opening != opening {
+            return self;
+        }
         Entry {
             dirty: false,
             ..self
         }
     }
 
-    // The failure is kept until the name is forgotten.
-    pub fn fail(self, failure: Failure) -> Entry
-        ensures { λ r. ⌜ r ≡ failing failure self ⌝ }
+    // An opening's failure is kept, while the entry is still its own, until the name is forgotten.
+    pub fn fail(self, opening: u64, failure: Failure) -> Entry
+        ensures { λ r. ⌜ r ≡ failing opening failure self ⌝ }
     {
+        if self.opening != opening {
+            return self;
+        }
         Entry {
             failure: Some(failure),
             ..self

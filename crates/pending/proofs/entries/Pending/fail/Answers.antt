@@ -7,4 +7,4 @@ use Rattle.pending.proofs.Changes.{unchanged}
 use Rattle.pending.proofs.entries.Pending.fail.Needs as need
 
 pub returns-in-None : need.returns-in-None
-returns-in-None c = unchanged (entries (c .args .self .now)) (key-name (c .args .key .now)) (mapped (failing (c .args .failure))) (c .in-None .ensures tt) refl
+returns-in-None c = unchanged (entries (c .args .self .now)) (key-name (c .args .key .now)) (mapped (failing (c .args .opening) (c .args .failure))) (c .in-None .ensures tt) refl
