@@ -4,10 +4,13 @@ ghost use mathlib.Core.Path.{_≡_};
 ghost use Prim.Native.Nat.{_+_, _<_, _≤_, min};
 ghost use lib.Dec.{eqb};
 ghost use lib.ListN.{length};
-ghost use Rattle.rules.specs.Chunks.{ahead, batch, chunks, sizes-ok, total};
+ghost use Rattle.rules.specs.Chunks.{ahead, batch, chunks, header-ok, sizes-ok, total};
 
 // Zero lengths count too, so this bounds every run over the lengths, and how deep the chunk count goes.
 pub const MOST_LENGTHS: usize = 4_096;
+
+// One page, behind which a blob's data begin.
+pub const MOST_HEADER: usize = 4_096;
 
 // 16 MiB: a caller keeps its body until the write is run. It is far below 2^63 - 1, past which a vectored write is refused.
 pub const MOST_BYTES: usize = 16_777_216;
@@ -46,6 +49,13 @@ fn add_up(lengths: &[u64], size: u64) -> bool
         rest -= *length;
     }
     rest == 0
+}
+
+// Whether a header of `size` bytes is within its limit.
+pub fn header_ok(size: usize) -> bool
+    ensures { λ r. ⌜ r ≡ header-ok size ⌝ }
+{
+    size <= MOST_HEADER
 }
 
 // Whether a body of `size` bytes and its lengths are within their limits, and the lengths cut all of it.

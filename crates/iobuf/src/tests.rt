@@ -1,5 +1,6 @@
 // Chunks and submissions on both sides of each of their bounds.
 use crate::chunk_count;
+use crate::header_ok;
 use crate::next_len;
 use crate::sizes_ok;
 use std::test::*;
@@ -19,6 +20,8 @@ fn chunks_are_counted() -> Result<(), Fail> {
 #[test]
 fn sizes_are_checked() -> Result<(), Fail> {
     let ones = [1; 4_097];
+    check(header_ok(4_096))?;
+    check(!header_ok(4_097))?;
     check(sizes_ok(0, &[]))?;
     check(!sizes_ok(1, &[]))?;
     check(!sizes_ok(0, &[u64::MAX, 1]))?;

@@ -11,9 +11,10 @@ ghost use Rattle.table.specs.Maps.{taken, fits, put, without, none};
 ghost use Rattle.rules.specs.Ends.{registered};
 ghost use Rattle.rules.specs.Opens.{new-entry, failing};
 ghost use Rattle.rules.specs.Finishes.{cleaned};
-ghost use Rattle.pending.specs.Of.{entries, settling};
+ghost use Rattle.pending.specs.Of.{barring, entries, settling};
 use crate::names::Names;
 use faults::Failure;
+use faults::Fault;
 use keys::Key;
 use keys::Partition;
 use rules::Entry;
@@ -53,6 +54,16 @@ impl Pending {
         ensures { λ r. ⌜ mapped key-name r ≡ nth (entries (now (self .entry)) .keys) i ⌝ }
     {
         self.names.key_at(i)
+    }
+
+    // Why an existing name is not admitted. `lives` says whether its entry's own opening has not ended.
+    pub fn bar(&self, key: &Key, lives: bool) -> Option<Fault>
+        ensures { λ r. ⌜ r ≡ barring lives (entries (now (self .entry)) .at (key-name (now (key .entry)))) ⌝ }
+    {
+        match self.names.get(key) {
+            Some(entry) => entry.bar(lives),
+            None => None,
+        }
     }
 
     // Writes the entry of a new opening over what the name's entry was, where there is room for it.

@@ -28,6 +28,10 @@ ahead (suc c) (l ∷ ls) landed = cond (leb l landed) (ahead (suc c) ls (landed 
 abbrev pub next-bytes : List ℕ → List ℕ → ℕ → List ℕ
 next-bytes body lengths landed = take (ahead batch lengths landed) (drop landed body)
 
+-- a header is within its limit
+abbrev pub header-ok : ℕ → Bool
+header-ok size = leb size 4096
+
 -- a body and its lengths are within their limits, and the lengths add up to the body
 abbrev pub sizes-ok : ℕ → List ℕ → Bool
 sizes-ok size lengths = leb (length lengths) 4096 && (leb size 16777216 && eqb (total lengths) size)

@@ -27,6 +27,7 @@ use Rattle.rules.specs.declared.opening.Mode.the-variants.{Existing, Fresh}
 use Rattle.rules.specs.declared.opening.Stage.the-variants.{Owing, Blob}
 use Rattle.rules.specs.declared.pending.Entry.{Entry}
 use Rattle.rules.specs.State.{Opening, State, with-name, with-opening, with-admitted}
+use Rattle.rules.specs.Chunks.{header-ok}
 use Rattle.rules.specs.Track.{untouched}
 use Rattle.rules.specs.Tree.{Prog, done, ask}
 use Rattle.rules.specs.Ends.{live, end-rule}
@@ -53,16 +54,19 @@ abbrev pub open-refused : State → KeyName → ℕ → Option Fault
 open-refused s q size =
     unless (partition-ok (q .partition)) PartitionNameInvalid
     (unless (name-ok (q .name)) BlobNameInvalid
-    (unless (leb size 4096) TooLarge
+    (unless (header-ok size) TooLarge
     (unless (room s q) Full
     (unless (ltb (s .admitted) 1000000) Exhausted None))))
 
 -- ---- admission
 
 -- an existing name is refused while its opening has not ended, and then with its failure
+abbrev pub barred-while : Bool → Entry → Option Fault
+barred-while lives e = cond lives (Some BlobAlreadyOpen) (mapped refusal (e .failure))
+
 abbrev pub barred : State → Option Entry → Option Fault
 barred s None = None
-barred s (Some e) = cond (live s (e .opening)) (Some BlobAlreadyOpen) (mapped refusal (e .failure))
+barred s (Some e) = barred-while (live s (e .opening)) e
 
 -- the opening that the entry waits for, and whether it is dirty
 abbrev pub waits : Option Entry → Option ℕ

@@ -1,10 +1,12 @@
 // What a name remembers between its openings.
 ghost use mathlib.Core.Path.{_≡_};
 ghost use Rattle.rules.specs.Ends.{clear, registered, settled, unless-free-if};
-ghost use Rattle.rules.specs.Opens.{waits, soiled, owes, new-entry, failing};
+ghost use Rattle.rules.specs.Opens.{barred-while, waits, soiled, owes, new-entry, failing};
 ghost use Rattle.rules.specs.Finishes.{cleaned};
 use crate::tracker::Tracker;
 use faults::Failure;
+use faults::Fault;
+use faults::FaultFromFailure;
 
 #[derive(Clone, Copy)]
 pub struct Entry {
@@ -54,6 +56,19 @@ impl Entry {
             unsettled: waited_for(was),
             dirty: is_soiled(was),
             failure: None,
+        }
+    }
+
+    // Why the name is not opened again: its opening has not ended, or a failure is kept.
+    pub fn bar(&self, lives: bool) -> Option<Fault>
+        ensures { λ r. ⌜ r ≡ barred-while lives (now (self .entry)) ⌝ }
+    {
+        if lives {
+            return Some(Fault::BlobAlreadyOpen);
+        }
+        match self.failure {
+            Some(failure) => Some(failure.into()),
+            None => None,
         }
     }
 
