@@ -1,1 +1,4 @@
 pub mod Seen
+pub mod Opens
+pub mod Parts
+pub mod Changes

@@ -17,6 +17,12 @@ use std::alloc::AllocError;
 use std::alloc::Global;
 use table::Table;
 
+pub mod ends;
+pub mod opens;
+
+// Names that can be held at once.
+pub const NAMES: usize = 64;
+
 // Openings at once: each worker of the line has its own, and a name is rarely open twice.
 pub const OPENINGS: usize = 128;
 

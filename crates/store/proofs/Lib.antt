@@ -1,0 +1,4 @@
+pub mod Programs
+pub mod Ends
+pub mod Admits
+pub mod Spends
