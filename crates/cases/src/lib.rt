@@ -1,4 +1,6 @@
 // The rules hold in each of the worked cases.
+#![tactic(auto)]
+
 ghost use Rattle.cases.specs.Scripts.{AllPlay};
 ghost use Rattle.cases.specs.Table.{cases};
 

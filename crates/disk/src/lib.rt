@@ -1,4 +1,6 @@
 // A disk, by what it is asked and what it answers.
+#![tactic(auto)]
+
 ghost use Rattle.std.specs.Prelude.{length};
 ghost use Rattle.keys.specs.Keys.{key_name, partition_of};
 ghost use Rattle.disk.specs.Files.{DiskState, Valid};

@@ -1,4 +1,6 @@
 // Why a disk failed, and why a call was refused.
+#![tactic(auto)]
+
 pub mod disk;
 pub mod store;
 

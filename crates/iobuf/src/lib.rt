@@ -1,4 +1,6 @@
 // The lengths that cut a write's body into chunks.
+#![tactic(auto)]
+
 ghost use Rattle.std.specs.Prelude.{◌≡◌, ◌+◌, ◌<◌, ◌≤◌, min, length, if◌then◌else◌, ◌==◌, nat_eq};
 ghost use Rattle.rules.specs.Chunks.{ahead, batch, chunks, header_ok, sizes_ok, total};
 

@@ -1,4 +1,6 @@
 // The keys of blobs: a partition and a name in it.
+#![tactic(auto)]
+
 pub mod key;
 pub mod name;
 pub mod partition;

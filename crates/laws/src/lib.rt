@@ -1,4 +1,6 @@
 // The laws of the rules: each stands on the contract of a function, so that it is proved or the crate is not.
+#![tactic(auto)]
+
 ghost use Rattle.laws.specs.Answers.{Determined, Total};
 ghost use Rattle.laws.specs.Barriers.{BarriersNotRepeated};
 ghost use Rattle.laws.specs.Bodies.{BodiesLie};

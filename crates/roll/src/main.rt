@@ -1,5 +1,7 @@
 // Makes a sheet of forty strips on a flat disk, each begun from the origin that was read back for it, and says which
 // strips may be called safe: once on a disk without faults, and once on one whose plan has three.
+#![tactic(auto)]
+
 mod asked;
 mod job;
 mod sheet;

@@ -1,4 +1,6 @@
 // What a store holds, in the types that its rules and its code share. The rules themselves stand in specs/.
+#![tactic(auto)]
+
 pub mod opening;
 pub mod pending;
 pub mod ticket;

@@ -1,4 +1,6 @@
 // A store of blobs over any disk: the tables of the ledger, and what the calls ask of the disk.
+#![tactic(auto)]
+
 pub mod asks;
 pub mod counts;
 pub mod finishes;

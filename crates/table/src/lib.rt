@@ -1,4 +1,6 @@
 // Things that are looked up by a number, the one search for them, and a table of them that never grows.
+#![tactic(auto)]
+
 ghost use Rattle.std.specs.Prelude.{◌≡◌, ℕ};
 ghost use Rattle.table.specs.Numbers.{Place};
 

@@ -1,4 +1,6 @@
 // A visit to a blob: whatever is answered, each token is spent.
+#![tactic(auto)]
+
 use disk::Disk;
 use faults::Fault;
 use rules::Mode;
