@@ -5,15 +5,15 @@ use Rattle.flat.specs.Places.{meaning_of, key_in}
 use Rattle.flat.specs.RowsLemmas.{here, past, eight, key_kept}
 use Rattle.flat.proofs.files.Files.view.Goals as goal
 
-pub returns-in-default : goal.returns-in-default
-returns-in-default c =
+pub returns-in_default : goal.returns-in_default
+returns-in_default c =
     let xs = c.args.self.now.slots in
     let n = eight xs c.requires in
-    let l = c.in-default.ensures in
+    let l = c.in_default.ensures in
     sym (past xs c.args.number (omega arith))
 
-pub returns-then-is-there : goal.returns-then-is-there
-returns-then-is-there c =
+pub returns-then-is_there : goal.returns-then-is_there
+returns-then-is_there c =
     let xs = c.args.self.now.slots in
     let i = c.in-Some.i in
     let at = c.in-Some.ensures in
@@ -23,14 +23,14 @@ returns-then-is-there c =
     let x = state (get_or xs i s) in
     let e = ap (meaning_of xs) (sym at.0) ∙ here xs i s h in
     ap (λ o. Some (shown o c.view.result)) (ap key_in e ∙ key_kept x) ∙ ap Some c.view.ensures
-    ∙ sym (e ∙ ap (λ b. cond b (Some x) None) (sym c.if-is-there.ensures))
+    ∙ sym (e ∙ ap (λ b. cond b (Some x) None) (sym c.if-is_there.ensures))
 
-pub returns-else-is-there : goal.returns-else-is-there
-returns-else-is-there c =
+pub returns-else-is_there : goal.returns-else-is_there
+returns-else-is_there c =
     let xs = c.args.self.now.slots in
     let i = c.in-Some.i in
     let at = c.in-Some.ensures in
     let s = c.index-self-i.result in
     let n = eight xs c.requires in
     let h : i < length xs = let a = at.1 in omega arith in
-    sym (ap (meaning_of xs) (sym at.0) ∙ here xs i s h ∙ ap (λ b. cond b (Some (state (get_or xs i s))) None) (sym c.if-is-there.ensures))
+    sym (ap (meaning_of xs) (sym at.0) ∙ here xs i s h ∙ ap (λ b. cond b (Some (state (get_or xs i s))) None) (sym c.if-is_there.ensures))

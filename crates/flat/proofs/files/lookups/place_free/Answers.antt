@@ -6,15 +6,15 @@ use Rattle.flat.specs.RowsLemmas.{here, free_kept}
 use Rattle.flat.specs.Firsts.{first_some, first_none}
 use Rattle.flat.proofs.files.lookups.place_free.Goals as goal
 
-pub returns-then-not-is-there : goal.returns-then-not-is-there
-returns-then-not-is-there c =
+pub returns-then-not-is_there : goal.returns-then-not-is_there
+returns-then-not-is_there c =
     let xs = c.args.slots.now in
     let i = c.loop-i.i in
     let s = c.index-slots-i.result in
     let h : i < length xs = search rules in
     let e = ap is_free (here xs i s h ∙ ap (λ z. kept (state z)) (sym c.index-slots-i.is)) ∙ free_kept (state s) in
     record {
-      value = sym (first_some is_free (meaning_of xs) 0 (length xs) i (omega arith) (omega arith) (e ∙ ap not (sym c.if-not-is-there.ensures)) c.loop-i.invariant);
+      value = sym (first_some is_free (meaning_of xs) 0 (length xs) i (omega arith) (omega arith) (e ∙ ap not (sym c.if-not-is_there.ensures)) c.loop-i.invariant);
       within = h;
     }
 
@@ -25,7 +25,7 @@ loop-i-preserved c =
     let s = c.index-slots-i.result in
     let h : i < length xs = search rules in
     let e = ap is_free (here xs i s h ∙ ap (λ z. kept (state z)) (sym c.index-slots-i.is)) ∙ free_kept (state s) in
-    below_more _ _ c.loop-i.invariant (e ∙ ap not (sym c.if-not-is-there.ensures))
+    below_more _ _ c.loop-i.invariant (e ∙ ap not (sym c.if-not-is_there.ensures))
 
 pub returns : goal.returns
 returns c =

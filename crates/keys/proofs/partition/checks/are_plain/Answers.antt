@@ -8,11 +8,11 @@ more : (s : List ℕ) (i : ℕ) (b : Bool) → i < length s → b ≡ plain (get
 unfolding all_plain
 more s i b h e = at_drop_more all_plain s i 0 h ∙ ap (λ t. t && all_plain (drop (i + 1) s)) (sym e)
 
-pub returns-then-not-is-plain : goal.returns-then-not-is-plain
-returns-then-not-is-plain c = sym (sym c.loop-b.invariant ∙ more _ _ false c.loop-b-test.true c.if-not-is-plain.ensures)
+pub returns-then-not-is_plain : goal.returns-then-not-is_plain
+returns-then-not-is_plain c = sym (sym c.loop-b.invariant ∙ more _ _ false c.loop-b-test.true c.if-not-is_plain.ensures)
 
 pub loop-b-preserved : goal.loop-b-preserved
-loop-b-preserved c = sym (more _ _ true c.loop-b-test.true c.if-not-is-plain.ensures) ∙ c.loop-b.invariant
+loop-b-preserved c = sym (more _ _ true c.loop-b-test.true c.if-not-is_plain.ensures) ∙ c.loop-b.invariant
 
 pub returns : goal.returns
 unfolding all_plain

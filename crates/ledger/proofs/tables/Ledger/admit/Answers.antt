@@ -15,9 +15,9 @@ returns c =
     let parts = and_parts (fits 64 s.names q) (opening_fits s) room in
     let names = c.admit.ensures.after ∙ cond-true _ _ _ (c.admit.ensures.fit ∙ parts.0) in
     record {
-      value = c.add-opening.ensures.value ∙ cond-true _ _ _ parts.1 ∙ sym (cond-true _ _ _ room);
-      after = c.add-opening.ensures.after
+      value = c.add_opening.ensures.value ∙ cond-true _ _ _ parts.1 ∙ sym (cond-true _ _ _ room);
+      after = c.add_opening.ensures.after
           ∙ cond-true _ _ _ parts.1
-          ∙ (λ i. opening_added (with_names s (names i)) (record { key = q; account = c.new-account-account.ensures i }))
+          ∙ (λ i. opening_added (with_names s (names i)) (record { key = q; account = c.new_account-account.ensures i }))
           ∙ sym (cond-true _ _ _ room);
     }

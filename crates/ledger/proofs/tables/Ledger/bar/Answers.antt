@@ -4,9 +4,9 @@ use Rattle.rules.specs.Opens.{barred}
 use Rattle.ledger.specs.Of.{state_of}
 use Rattle.ledger.proofs.tables.Ledger.bar.Goals as goal
 
-pub returns-then-is-live : goal.returns-then-is-live
-returns-then-is-live c = sym (ap (barred (state_of c.args.self.now)) c.in-Some.is ∙ cond-true _ _ _ (sym c.if-is-live.ensures))
+pub returns-then-is_live : goal.returns-then-is_live
+returns-then-is_live c = sym (ap (barred (state_of c.args.self.now)) c.in-Some.is ∙ cond-true _ _ _ (sym c.if-is_live.ensures))
 
-pub returns-else-is-live : goal.returns-else-is-live
-returns-else-is-live c =
-    c.refusal_of.ensures ∙ sym (ap (barred (state_of c.args.self.now)) c.in-Some.is ∙ cond-false _ _ _ (sym c.if-is-live.ensures))
+pub returns-else-is_live : goal.returns-else-is_live
+returns-else-is_live c =
+    c.refusal_of.ensures ∙ sym (ap (barred (state_of c.args.self.now)) c.in-Some.is ∙ cond-false _ _ _ (sym c.if-is_live.ensures))

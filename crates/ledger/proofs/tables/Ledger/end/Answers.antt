@@ -29,7 +29,7 @@ returns-else-open-eq0 c =
     let some = ne_eqb _ _ c.if-open-eq0.false in
     record {
       value = sym (ap end_file_of there ∙ cond-false _ _ _ some);
-      after = c.set-account.ensures
+      after = c.set_account.ensures
           ∙ set_there (with_names s (entries c.register.new.self)) n o _ (sym there)
           ∙ ap (λ m. with_opening (with_names s m) n (Some (ended o))) c.register.ensures
           ∙ sym (ap (end_state_from s n) there ∙ cond-false _ _ _ some);

@@ -12,4 +12,4 @@ returns-in-Some c =
     let s = state_of c.args.self.now in
     let n = c.args.number in
     let o = opening_of c.in-Some.open in
-    changed s _ n o (keep c.args.failure) c.in-Some.ensures (c.set-account.ensures ∙ ap (λ (t : Tracker). with_opening s n (option_map (λ p. with_account p (with_tracker o.account t)) (s.openings.at n))) c.poison.ensures)
+    changed s _ n o (keep c.args.failure) c.in-Some.ensures (c.set_account.ensures ∙ ap (λ (t : Tracker). with_opening s n (option_map (λ p. with_account p (with_tracker o.account t)) (s.openings.at n))) c.poison.ensures)

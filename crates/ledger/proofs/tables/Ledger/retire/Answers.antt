@@ -14,6 +14,6 @@ returns c =
     let n = c.args.number in
     let o = opening_of c.args.opened.now in
     let w = s.names.at o.key in
-    let settled = settling_by s n o.account.tracker c.is-over-over.result w (λ e is. c.is-over-over.ensures ∙ ap (owner_over s n) is) in
+    let settled = settling_by s n o.account.tracker c.is_over-over.result w (λ e is. c.is_over-over.ensures ∙ ap (owner_over s n) is) in
     let names = c.settle.ensures ∙ ap (λ (v : Option Entry). put same_key s.names o.key v) settled in
-    c.free-opening.ensures ∙ (λ i. with_opening (with_names s (names i)) n None)
+    c.free_opening.ensures ∙ (λ i. with_opening (with_names s (names i)) n None)

@@ -6,6 +6,6 @@ use Rattle.ledger.proofs.tables.Ledger.spend.Goals as goal
 pub returns : goal.returns
 returns c =
     record {
-      value = c.count-spent.ensures.value ∙ ap (λ (t : State). spend_file t c.args.number) c.free-ticket.ensures;
-      after = c.count-spent.ensures.after ∙ ap (λ (t : State). spent_state t c.args.number) c.free-ticket.ensures;
+      value = c.count_spent.ensures.value ∙ ap (λ (t : State). spend_file t c.args.number) c.free_ticket.ensures;
+      after = c.count_spent.ensures.after ∙ ap (λ (t : State). spent_state t c.args.number) c.free_ticket.ensures;
     }

@@ -10,16 +10,16 @@ use Rattle.table.proofs.Others.{others_removed, others_all, map_others}
 use Rattle.pending.specs.Slots.{key_of, entry_of, is_in}
 use Rattle.pending.proofs.names.Names.free_partition.Goals as goal
 
-pub invariant-of-self : goal.invariant-of-self
-invariant-of-self c = (omega arith, (omega arith, (entries.apart_taken same_key same_key_tells key_of _ _ _ c.remove.ensures.items c.loop-i.self.distinct, tt)))
+pub invariant_of-self : goal.invariant_of-self
+invariant_of-self c = (omega arith, (omega arith, (entries.apart_taken same_key same_key_tells key_of _ _ _ c.remove.ensures.items c.loop-i.self.distinct, tt)))
 
-pub loop-i-preserved-then-is-in : goal.loop-i-preserved-then-is-in
-loop-i-preserved-then-is-in c =
+pub loop-i-preserved-then-is_in : goal.loop-i-preserved-then-is_in
+loop-i-preserved-then-is_in c =
     let p = partition_of c.args.partition.now in
     let ns = vec_items c.loop-i.self.items in
     let h : c.loop-i.i < length ns = omega arith in (
       ap (others (is_in p)) c.remove.ensures.items
-          ∙ others_removed (is_in p) ns c.loop-i.i _ h c.index.ensures (sym c.if-is-in.ensures)
+          ∙ others_removed (is_in p) ns c.loop-i.i _ h c.index.ensures (sym c.if-is_in.ensures)
           ∙ c.loop-i.invariant.0,
       λ k d a b. ap (is_in p) (c.remove.ensures.by_index.0 k d b) ∙ c.loop-i.invariant.1 k d a b,
     )

@@ -5,24 +5,24 @@ use Rattle.pending.specs.Slots.{key_of, entry_of}
 use Rattle.table.proofs.Entries as entries
 use Rattle.pending.proofs.names.Names.put.Goals as goal
 
-pub invariant-of-self : goal.invariant-of-self
-invariant-of-self c =
-    (search rules, (search rules, (entries.apart_change same_key same_key_tells key_of _ _ _ _ _ c.in-Some.ensures c.index-mut.ensures.value refl c.args.self.now.distinct, tt)))
+pub invariant_of-self : goal.invariant_of-self
+invariant_of-self c =
+    (search rules, (search rules, (entries.apart_change same_key same_key_tells key_of _ _ _ _ _ c.in-Some.ensures c.index_mut.ensures.value refl c.args.self.now.distinct, tt)))
 
 pub returns-then-len-ge-LIMIT : goal.returns-then-len-ge-LIMIT
 returns-then-len-ge-LIMIT c =
     let h : 64 ≤ length (vec_items c.args.self.now.items) = omega arith in
     record { fit = entries.fits_none same_key same_key_tells key_of entry_of _ _ _ c.in-None.ensures h; after = refl }
 
-pub invariant-of-self-in-None : goal.invariant-of-self-in-None
-invariant-of-self-in-None c =
-    (omega arith, (omega arith, (entries.apart_pushed same_key same_key_tells key_of _ _ _ c.push-reserved.ensures.items c.args.self.now.distinct c.in-None.ensures, tt)))
+pub invariant_of-self-in-None : goal.invariant_of-self-in-None
+invariant_of-self-in-None c =
+    (omega arith, (omega arith, (entries.apart_pushed same_key same_key_tells key_of _ _ _ c.push_reserved.ensures.items c.args.self.now.distinct c.in-None.ensures, tt)))
 
 pub returns-in-Some : goal.returns-in-Some
 returns-in-Some c =
     record {
-      fit = entries.fits_found same_key same_key_tells key_of entry_of _ _ _ _ _ c.in-Some.ensures c.index-mut.ensures.value;
-      after = entries.map_change same_key same_key_tells key_of entry_of _ _ _ _ _ c.in-Some.ensures c.index-mut.ensures.value refl;
+      fit = entries.fits_found same_key same_key_tells key_of entry_of _ _ _ _ _ c.in-Some.ensures c.index_mut.ensures.value;
+      after = entries.map_change same_key same_key_tells key_of entry_of _ _ _ _ _ c.in-Some.ensures c.index_mut.ensures.value refl;
     }
 
 pub returns-else-len-ge-LIMIT : goal.returns-else-len-ge-LIMIT
@@ -30,5 +30,5 @@ returns-else-len-ge-LIMIT c =
     let h : length (vec_items c.args.self.now.items) < 64 = omega arith in
     record {
       fit = entries.fits_new same_key same_key_tells key_of entry_of _ _ _ c.in-None.ensures h;
-      after = entries.map_push same_key same_key_tells key_of entry_of _ _ _ c.push-reserved.ensures.items c.in-None.ensures;
+      after = entries.map_push same_key same_key_tells key_of entry_of _ _ _ c.push_reserved.ensures.items c.in-None.ensures;
     }

@@ -9,16 +9,16 @@ use Rattle.pending.specs.Slots.{key_of, entry_of}
 use Rattle.pending.specs.Of.{map}
 use Rattle.pending.proofs.names.Names.replace.Goals as goal
 
-pub invariant-of-self : goal.invariant-of-self
-invariant-of-self c =
-    (search rules, (search rules, (entries.apart_change same_key same_key_tells key_of _ _ _ _ _ c.in-Some.ensures c.index-mut.ensures.value refl c.args.self.now.distinct, tt)))
+pub invariant_of-self : goal.invariant_of-self
+invariant_of-self c =
+    (search rules, (search rules, (entries.apart_change same_key same_key_tells key_of _ _ _ _ _ c.in-Some.ensures c.index_mut.ensures.value refl c.args.self.now.distinct, tt)))
 
 pub returns-in-Some : goal.returns-in-Some
 returns-in-Some c =
     let m = map c.args.self.now in
     let k = key_name c.args.key.now in
-    entries.map_change same_key same_key_tells key_of entry_of _ _ _ _ _ c.in-Some.ensures c.index-mut.ensures.value refl
-    ∙ ap (λ (o : Option Entry). put same_key m k (option_and o (Some c.args.entry))) (sym (entries.at_found same_key same_key_tells key_of entry_of _ _ _ _ c.in-Some.ensures c.index-mut.ensures.value))
+    entries.map_change same_key same_key_tells key_of entry_of _ _ _ _ _ c.in-Some.ensures c.index_mut.ensures.value refl
+    ∙ ap (λ (o : Option Entry). put same_key m k (option_and o (Some c.args.entry))) (sym (entries.at_found same_key same_key_tells key_of entry_of _ _ _ _ c.in-Some.ensures c.index_mut.ensures.value))
 
 pub returns-in-None : goal.returns-in-None
 returns-in-None c =

@@ -5,5 +5,5 @@ use Rattle.slots.proofs.slot.parts.put.Goals as goal
 pub returns : goal.returns
 returns c =
     let from = c.args.from.now in
-    put_mid-paste c.args.at (c.args.at + length from - c.args.at) c.args.into.now c.copy-from-slice.new.self from (length from)
-    c.copy-from-slice.ensures.after (omega arith) refl
+    put_mid-paste c.args.at (c.args.at + length from - c.args.at) c.args.into.now c.copy_from_slice.new.self from (length from)
+    c.copy_from_slice.ensures.after (omega arith) refl

@@ -15,13 +15,13 @@ returns-else-unspent g c =
     let n = c.number-number.result in
     let o = opening_of c.in-Some.open in
     let entry = s.names.at o.key in
-    let r = c.finish-by-entry.result in
+    let r = c.finish_by_entry.result in
     let did = g.D.Disk.did in
     record {
       runs = runs_at did (λ (k : ℕ). finish_rule s k) _ _ _ c.number-number.ensures
           (runs_at did (λ (w : Option Opening). at_stage s owing_stage (finish_owing s n) w) _ _ _ c.in-Some.ensures
-          (runs_at did (λ (b : Bool). cond b (finish_owing s n o) (done (Err Unknown, s))) _ _ _ c.if-is-owing.ensures
-          (runs_at did (λ (b : Bool). cond b (done (Err Unsettled, s)) (by_entry s n o entry)) _ _ _ c.if-unspent.ensures c.finish-by-entry.ensures)));
-      token = c.spend.ensures ∙ sym (sym (left_answered ready_of c.args.owing.now.number r) ∙ by_entry_spends did c.args.owing.now.number _ (answered ready_of r) _ s n o entry _ c.finish-by-entry.ensures);
+          (runs_at did (λ (b : Bool). cond b (finish_owing s n o) (done (Err Unknown, s))) _ _ _ c.if-is_owing.ensures
+          (runs_at did (λ (b : Bool). cond b (done (Err Unsettled, s)) (by_entry s n o entry)) _ _ _ c.if-unspent.ensures c.finish_by_entry.ensures)));
+      token = c.spend.ensures ∙ sym (sym (left_answered ready_of c.args.owing.now.number r) ∙ by_entry_spends did c.args.owing.now.number _ (answered ready_of r) _ s n o entry _ c.finish_by_entry.ensures);
       spent = λ _. c.spend.ensures;
     }

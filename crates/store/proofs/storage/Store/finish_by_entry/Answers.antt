@@ -15,4 +15,4 @@ returns-in-Some g c =
     let w = c.in-Some.entry in
     let did = g.D.Disk.did in
     runs_at did (λ (w : Option Entry). by_entry s n o w) _ _ _ c.in-Some.ensures
-    (runs_at did (λ (b : Bool). cond b (owned s n o w.dirty w.failure) (ready_rule s n o.account)) _ _ _ (sym (eq-eqb _ _ c.if-entry-number.true)) c.finish-owned.ensures)
+    (runs_at did (λ (b : Bool). cond b (owned s n o w.dirty w.failure) (ready_rule s n o.account)) _ _ _ (sym (eq-eqb _ _ c.if-entry-number.true)) c.finish_owned.ensures)

@@ -14,4 +14,4 @@ returns-in-Some g c =
     let n = c.args.number in
     let did = g.D.Disk.did in
     runs_at did (λ (x : Option Failure). owned s n (opening_of c.args.opening.now) c.args.dirty x) _ _ _ (sym c.in-Some.is)
-    (runs_at did (λ (f : Fault). end_rule s n (Err f)) _ _ _ c.into.ensures c.refuse-blob.ensures)
+    (runs_at did (λ (f : Fault). end_rule s n (Err f)) _ _ _ c.into.ensures c.refuse_blob.ensures)

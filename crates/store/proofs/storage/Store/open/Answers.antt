@@ -10,10 +10,10 @@ use Rattle.store.specs.Of.{state}
 use Rattle.store.proofs.Programs.{runs_at}
 use Rattle.store.proofs.storage.Store.open.Goals as goal
 
-pub open-key-requires : goal.open-key-requires
-open-key-requires g c =
+pub open_key-requires : goal.open_key-requires
+open_key-requires g c =
     let s = state c.args.self.now in
-    let k = c.in-ok-key.ensures in
+    let k = c.in_ok-key.ensures in
     ap (admits s) k.1 ∙ not_refused_admits s (named c.args.partition.now c.args.name.now) (length c.args.header.now) k.0
 
 pub returns : goal.returns
@@ -21,6 +21,6 @@ returns g c =
     let s = state c.args.self.now in
     let q = named c.args.partition.now c.args.name.now in
     let header = c.args.header.now in
-    let k = c.in-ok-key.ensures in
+    let k = c.in_ok-key.ensures in
     runs_at g.D.Disk.did (λ (x : Option Fault). open_checked s q c.args.mode header x) _ _ _ (sym k.0)
-    (runs_at g.D.Disk.did (λ (i : KeyName). ask (ask_open i) (opened s i c.args.mode header)) _ _ _ k.1 c.open-key.ensures)
+    (runs_at g.D.Disk.did (λ (i : KeyName). ask (ask_open i) (opened s i c.args.mode header)) _ _ _ k.1 c.open_key.ensures)

@@ -8,4 +8,4 @@ use Rattle.store.proofs.storage.Store.open_as.Goals as goal
 
 pub returns-in-Existing : goal.returns-in-Existing
 returns-in-Existing g c =
-    runs_at g.D.Disk.did (λ (m : Mode). opened_as (state c.args.self.now) (key_name c.args.key.now) c.args.header.now c.args.file m) _ _ _ (sym c.in-Existing.is) c.open-existing.ensures
+    runs_at g.D.Disk.did (λ (m : Mode). opened_as (state c.args.self.now) (key_name c.args.key.now) c.args.header.now c.args.file m) _ _ _ (sym c.in-Existing.is) c.open_existing.ensures

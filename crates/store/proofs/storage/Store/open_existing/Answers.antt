@@ -17,6 +17,6 @@ returns g c =
     let was = c.find-was.ensures in
     let t = admitted_state s q file offset c.find-was.result c.requires c.admit.ensures.after ∙ ap (admit s q file offset) was in
     let n = admitted_number s q c.requires c.admit.ensures.value c.unwrap-number.ensures in
-    let debt = c.is-owing-debt.ensures ∙ ap owes was in
-    runs_at g.D.Disk.did (λ (x : Option Fault). existing_from s q file offset x) _ _ _ (c.in-default.ensures ∙ ap (barred s) was)
-    (runs_at g.D.Disk.did (λ (x : State × ℕ × Bool). yield_rule x.0 x.1 file offset x.2) _ _ _ (λ i. (t i, n i, debt i)) c.yield-opened.ensures)
+    let debt = c.is_owing-debt.ensures ∙ ap owes was in
+    runs_at g.D.Disk.did (λ (x : Option Fault). existing_from s q file offset x) _ _ _ (c.in_default.ensures ∙ ap (barred s) was)
+    (runs_at g.D.Disk.did (λ (x : State × ℕ × Bool). yield_rule x.0 x.1 file offset x.2) _ _ _ (λ i. (t i, n i, debt i)) c.yield_opened.ensures)

@@ -11,4 +11,4 @@ pub returns : goal.returns
 returns g c =
     let n = c.args.number in
     let f = c.args.fault in
-    runs_at g.D.Disk.did (λ (t : State). end_rule t n (Err (BlobSyncFailed f))) _ _ _ (c.keep.ensures ∙ ap (λ (t : State). change t n (keep (Sync f))) c.fail.ensures) c.refuse-blob.ensures
+    runs_at g.D.Disk.did (λ (t : State). end_rule t n (Err (BlobSyncFailed f))) _ _ _ (c.keep.ensures ∙ ap (λ (t : State). change t n (keep (Sync f))) c.fail.ensures) c.refuse_blob.ensures

@@ -5,8 +5,8 @@ use Rattle.table.specs.Slots.{number_of, value_of}
 use Rattle.table.proofs.Entries as entries
 use Rattle.table.proofs.base.Table.free.Goals as goal
 
-pub invariant-of-self : goal.invariant-of-self
-invariant-of-self g c = (omega arith, (omega arith, (entries.apart_taken eqb eqb_tells number_of _ _ _ c.remove.ensures.items c.args.self.now.distinct, tt)))
+pub invariant_of-self : goal.invariant_of-self
+invariant_of-self g c = (omega arith, (omega arith, (entries.apart_taken eqb eqb_tells number_of _ _ _ c.remove.ensures.items c.args.self.now.distinct, tt)))
 
 pub returns-in-Some : goal.returns-in-Some
 returns-in-Some g c =

@@ -4,8 +4,8 @@ use Rattle.flat.specs.Places.{Distinct}
 use Rattle.flat.specs.Distinct.{close_distinct}
 use Rattle.flat.proofs.memory.requests.FlatDiskDisk.close.Goals as goal
 
-pub invariant-of-self : goal.invariant-of-self
-invariant-of-self c =
+pub invariant_of-self : goal.invariant_of-self
+invariant_of-self c =
     let d = c.args.self.now in
     let s = flat_meaning d in
     (subst Distinct (sym c.close.ensures.did) (close_distinct s c.args.file d.distinct), (c.close.ensures.numbers ∙ d.order, tt))

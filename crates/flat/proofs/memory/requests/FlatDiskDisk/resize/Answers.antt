@@ -8,8 +8,8 @@ use Rattle.flat.specs.Lifts.{keeps_resize}
 use Rattle.flat.specs.Distinct.{edited_distinct}
 use Rattle.flat.proofs.memory.requests.FlatDiskDisk.resize.Goals as goal
 
-pub invariant-of-self-2 : goal.invariant-of-self-2
-invariant-of-self-2 c =
+pub invariant_of-self-2 : goal.invariant_of-self-2
+invariant_of-self-2 c =
     let d = c.args.self.now in
     let s = flat_meaning d in
     (subst Distinct (sym (ap (λ v. v.1) c.resize.ensures.did)) (edited_distinct resize_fault (resize_answer (place c.args.end)) (after_resize (place c.args.end)) (keeps_resize (place c.args.end)) s c.args.file d.distinct), (c.resize.ensures.numbers ∙ d.order, tt))

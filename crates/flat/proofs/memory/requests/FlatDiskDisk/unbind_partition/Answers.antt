@@ -6,8 +6,8 @@ use Rattle.flat.specs.Places.{Distinct}
 use Rattle.flat.specs.Distinct.{unbind_distinct}
 use Rattle.flat.proofs.memory.requests.FlatDiskDisk.unbind_partition.Goals as goal
 
-pub invariant-of-self-2 : goal.invariant-of-self-2
-invariant-of-self-2 c =
+pub invariant_of-self-2 : goal.invariant_of-self-2
+invariant_of-self-2 c =
     let d = c.args.self.now in
     let s = flat_meaning d in
     (subst Distinct (sym (ap (λ v. v.1) c.unbind.ensures.did)) (unbind_distinct (in_partition (partition_of c.args.partition.now)) s d.distinct), (c.unbind.ensures.numbers ∙ d.order, tt))
