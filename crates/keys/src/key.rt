@@ -1,8 +1,9 @@
 // A key: a partition and a name. Two are equal when both have the same bytes.
 ghost use Rattle.std.specs.Prelude.{◌≡◌, Decides, MatchResult};
-ghost use Rattle.keys.specs.Keys.{key_name, name_of, partition_of, KeyCheck, KeyName};
-ghost use Rattle.std.specs.Cmp.Rules.{comparing};
-ghost use Rattle.std.proofs.Common.{rules};
+ghost use Rattle.std.specs.Ordering.{on};
+ghost use Rattle.keys.specs.Keys.{key_name, name_of, partition_of, same_key, KeyCheck, KeyName};
+ghost use Rattle.std.specs.Cmp.{on_per};
+ghost use Rattle.keys.specs.Laws.{same_key_laws};
 
 use crate::name::Name;
 use crate::partition::Partition;
@@ -38,11 +39,14 @@ impl Key {
 }
 
 impl PartialEq for Key {
-    ghost equals = { λ a b r. Decides r (key_name a ≡ key_name b) };
+    ghost eq = { on key_name same_key };
 
-    ghost laws = { Prim.search (comparing, rules) };
+    ghost laws = { on_per key_name same_key_laws };
 
-    fn eq(&self, other: &Key) -> bool {
+    fn eq(&self, other: &Key) -> bool
+        ensures answer { result ≡ same_key (key_name self.now) (key_name other.now) }
+        ensures bytes { Decides result (key_name self.now ≡ key_name other.now) }
+    {
         self.partition == other.partition && self.name == other.name
     }
 }

@@ -23,7 +23,7 @@ from_none o e = ap (λ v. not (is_some v)) e
 
 mapped_update : {X Y K : Type 0} (same : K → K → Bool) (v : X → Y) (f : K → Option X) (k : K) (w : Option X) (q : K) → option_map v (update same f k w q) ≡ update same (λ k. option_map v (f k)) k (option_map v w) q
 mapped_update same v f k w q =
-    elim (same q k) as (λ b. option_map v (cond b w (f q)) ≡ cond b (option_map v w) (option_map v (f q))) [ true ↦ refl | false ↦ refl ]
+    elim (same k q) as (λ b. option_map v (cond b w (f q)) ≡ cond b (option_map v w) (option_map v (f q))) [ true ↦ refl | false ↦ refl ]
 
 -- to free a key that has no place changes nothing
 pub put_still : {K Y : Type 0} (same : K → K → Bool) (tells : Tells same) (m : Map K Y) (k : K) → m.at k ≡ None → m ≡ put same m k None

@@ -1,8 +1,8 @@
 -- The map that a list stands for once the elements of some keys are taken out. Assumes nothing.
-use Rattle.std.proofs.Common.{◌≡◌, ℕ, zero, suc, ◌<◌, Bool, true, false, cond, List, [], ◌∷◌, map, length, get_or, Some, None, Option, sym, refl, ap, ◌∙◌, arith}
+use Rattle.std.proofs.Common.{◌≡◌, ℕ, zero, suc, ◌<◌, Bool, true, false, cond, List, [], ◌∷◌, map, length, get_or, None, Option, sym, refl, ap, ◌∙◌, arith}
 use Rattle.std.specs.List.{remove, AllWithin}
 use Rattle.std.specs.Option.{option_map}
-use Rattle.table.specs.Maps.{Map, others, without}
+use Rattle.table.specs.Maps.{others, without}
 use Rattle.table.specs.Held.{held, Tells, map_of}
 
 module _ {X : Type 0} (tells : X → Bool) where

@@ -1,5 +1,7 @@
 // Which bytes make a name, and when two are equal.
 ghost use Rattle.std.specs.Prelude.{◌≡◌, true, false, Decides, MatchResult};
+ghost use Rattle.std.specs.Ordering.{on};
+ghost use Rattle.std.specs.Str.{bytes_eq};
 ghost use Rattle.faults.specs.declared.store.Fault.TheVariants.{BlobNameInvalid};
 ghost use Rattle.keys.specs.Names.{name_ok};
 ghost use Rattle.keys.specs.Keys.{name_of};
@@ -31,11 +33,14 @@ impl Name {
 }
 
 impl PartialEq for Name {
-    ghost equals = { λ m n r. Decides r (name_of m ≡ name_of n) };
+    ghost eq = { on name_of bytes_eq };
 
-    ghost laws = { first_of (Prim.search (comparing, rules), Prim.grind (arith, Self.row.coded.inj)) };
+    ghost laws = { Prim.search (comparing, rules) };
 
-    fn eq(&self, other: &Name) -> bool {
+    fn eq(&self, other: &Name) -> bool
+        ensures answer { result ≡ bytes_eq (name_of self.now) (name_of other.now) }
+        ensures bytes { Decides result (name_of self.now ≡ name_of other.now) }
+    {
         self.bytes.same(&other.bytes)
     }
 }

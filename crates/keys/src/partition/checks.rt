@@ -1,5 +1,7 @@
 // Which bytes make a partition, and when two are equal.
 ghost use Rattle.std.specs.Prelude.{◌≡◌, true, false, cond, Decides, MatchResult};
+ghost use Rattle.std.specs.Ordering.{on};
+ghost use Rattle.std.specs.Str.{bytes_eq};
 ghost use Rattle.faults.specs.declared.store.Fault.TheVariants.{PartitionNameInvalid};
 ghost use Rattle.keys.specs.Names.{plain, all_plain, partition_ok};
 ghost use Rattle.keys.specs.Keys.{partition_of};
@@ -48,11 +50,14 @@ impl Partition {
 }
 
 impl PartialEq for Partition {
-    ghost equals = { λ p q r. Decides r (partition_of p ≡ partition_of q) };
+    ghost eq = { on partition_of bytes_eq };
 
-    ghost laws = { first_of (Prim.search (comparing, rules), Prim.grind (arith, Self.row.coded.inj)) };
+    ghost laws = { Prim.search (comparing, rules) };
 
-    fn eq(&self, other: &Partition) -> bool {
+    fn eq(&self, other: &Partition) -> bool
+        ensures answer { result ≡ bytes_eq (partition_of self.now) (partition_of other.now) }
+        ensures bytes { Decides result (partition_of self.now ≡ partition_of other.now) }
+    {
         self.bytes.same(&other.bytes)
     }
 }

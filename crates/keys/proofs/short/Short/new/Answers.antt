@@ -1,4 +1,4 @@
-use Rattle.std.proofs.Common.{◌≡◌, [], ◌∷◌, ◌++◌, get_or, sym, refl, ap, ◌∙◌, arith, length-set, rules}
+use Rattle.std.proofs.Common.{[], ◌∷◌, ◌++◌, get_or, sym, refl, ap, ◌∙◌, length-set, rules}
 use lib.ListN.{length-replicate}
 use Rattle.std.proofs.lemmas.List.{take_more, take_more_set, take_all}
 use Rattle.keys.proofs.short.Short.new.Goals as goal

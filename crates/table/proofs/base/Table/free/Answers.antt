@@ -1,12 +1,12 @@
-use Rattle.std.proofs.Common.{◌≡◌, eqb, get_or, vec_items, arith}
+use Rattle.std.proofs.Common.{◌≡◌, eqb, get_or, vec_items}
 use Rattle.std.specs.List.{remove}
 use Rattle.std.proofs.lemmas.Bool.Decides.{eqb_tells}
 use Rattle.table.specs.Slots.{number_of, value_of}
 use Rattle.table.proofs.Entries as entries
 use Rattle.table.proofs.base.Table.free.Goals as goal
 
-pub invariant_of-self : goal.invariant_of-self
-invariant_of-self g c = (omega arith, (omega arith, (entries.apart_taken eqb eqb_tells number_of _ _ _ c.remove.ensures.items c.args.self.now.distinct, tt)))
+pub invariant_of-self-clause-distinct : goal.invariant_of-self-clause-distinct
+invariant_of-self-clause-distinct g c = entries.apart_taken eqb eqb_tells number_of _ _ _ c.remove.ensures.items c.args.self.now.distinct
 
 pub returns-in-Some : goal.returns-in-Some
 returns-in-Some g c =
