@@ -96,9 +96,9 @@ stands_once {x} {y} {p} {q} a b bytes changes key holds =
 
 put_held : (s : DiskState) (f : ℕ) (x : FileState) → Held s f x → put s f (Some x) ≡ s
 put_held s f x h =
-    fun_ext (λ g. elim (cases_Bool (eqb g f)) [
-      | inl e ↦ cond-true (eqb g f) _ _ e ∙ sym h.0 ∙ ap s (sym (eqb-true g f e))
-      | inr e ↦ cond-false (eqb g f) _ _ e
+    fun_ext (λ g. elim (cases_Bool (eqb f g)) [
+      | inl e ↦ cond-true (eqb f g) _ _ e ∙ sym h.0 ∙ ap s (eqb-true f g e)
+      | inr e ↦ cond-false (eqb f g) _ _ e
     ])
 
 -- n changes, of which k are promised

@@ -1,5 +1,5 @@
 -- What a disk stands for: its files by number, each with the key that it is bound to. Assumes nothing.
-use Rattle.std.specs.Prelude.{◌≡◌, ℕ, ◌<◌, ◌≤◌, Bool, true, cond, ◌||◌, ◌⊎◌, List, [], is_some, Some, None, Option, nat_eq, nat_lt}
+use Rattle.std.specs.Prelude.{◌≡◌, ℕ, ◌<◌, ◌≤◌, true, cond, ◌||◌, ◌⊎◌, List, [], is_some, Some, None, Option, nat_eq, nat_lt}
 use Rattle.std.specs.Map.{update}
 use Rattle.keys.specs.Keys.{KeyName}
 
