@@ -1,11 +1,10 @@
 -- How an opening ends and settles, and how a ticket is spent. Assumes nothing.
-use Rattle.std.specs.Prelude.{ℕ, ◌-◌, Bool, true, false, cond, not, ◌&&◌, ◌||◌, is_some, Some, None, Option, ◌==◌}
+use Rattle.std.specs.Prelude.{ℕ, ◌-◌, Bool, false, cond, not, ◌&&◌, ◌||◌, is_some, Some, None, Option, ◌==◌}
 use Rattle.std.specs.Option.{option_map}
 use Rattle.disk.specs.Requests.{ask_close}
 use Rattle.rules.specs.declared.opening.Account.{Account}
 use Rattle.rules.specs.declared.opening.Stage.TheVariants.{Ended}
 use Rattle.rules.specs.declared.pending.Entry.{Entry}
-use Rattle.rules.specs.declared.ticket.Ticket.{Ticket}
 use Rattle.rules.specs.declared.tracker.Tracker.{Tracker}
 use Rattle.rules.specs.State.{Opening, State, with_name, with_opening, with_ticket, with_account, with_stage, with_out, is_ended}
 use Rattle.rules.specs.Track.{first, is_dirty}

@@ -20,7 +20,7 @@ use Rattle.rules.specs.Chunks.{next_bytes}
 use Rattle.rules.specs.State.{Opening, State}
 use Rattle.rules.specs.Tree.{Prog, done, ask, submit, Runs}
 use Rattle.rules.specs.Opens.{Opened, blob, owing, new_number}
-use Rattle.rules.specs.Begins.{Begun, ticket, nothing, Options, is_fused, Syncing, counted, skipped}
+use Rattle.rules.specs.Begins.{Begun, ticket, nothing, is_fused, Syncing, counted, skipped}
 use Rattle.rules.specs.Tickets.{Ran, ran, resized, flush}
 use Rattle.rules.specs.Calls.{Call, Reply, to_open, to_finish, to_give_up, to_close, to_write, to_resize, to_sync, to_run, to_start, to_end, to_abandon, to_remove_name, to_remove_partition, to_count, to_share, to_list, to_read}
 

@@ -1,5 +1,5 @@
 -- Finish, give up and close. Assumes nothing.
-use Rattle.std.specs.Prelude.{ℕ, ◌-◌, Bool, true, false, cond, Some, None, Ok, Err, Option, Result, ◌==◌, nat_le, nat_lt}
+use Rattle.std.specs.Prelude.{ℕ, ◌-◌, Bool, false, cond, Some, None, Ok, Err, Option, Result, ◌==◌, nat_le, nat_lt}
 use Rattle.std.specs.Option.{option_map}
 use Rattle.faults.specs.Numbers.{refusal}
 use Rattle.faults.specs.declared.disk.FlushFault.{FlushFault}

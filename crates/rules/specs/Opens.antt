@@ -1,5 +1,5 @@
 -- Open: what it asks of the disk, answers and leaves. Assumes nothing.
-use Rattle.std.specs.Prelude.{ℕ, ◌+◌, ◌-◌, Bool, true, false, cond, not, ◌&&◌, ◌||◌, List, length, is_some, Some, None, Ok, Err, Option, Result, ◌==◌, nat_le, nat_lt}
+use Rattle.std.specs.Prelude.{ℕ, ◌+◌, ◌-◌, Bool, true, false, cond, ◌&&◌, ◌||◌, List, length, is_some, Some, None, Ok, Err, Option, Result, ◌==◌, nat_le, nat_lt}
 use Rattle.std.specs.Option.{option_map}
 use Rattle.faults.specs.Numbers.{refusal}
 use Rattle.faults.specs.declared.disk.OpenFault.{OpenFault}
@@ -18,7 +18,7 @@ use Rattle.rules.specs.declared.opening.Mode.{Mode}
 use Rattle.rules.specs.declared.opening.Mode.TheVariants.{Existing, Fresh}
 use Rattle.rules.specs.declared.opening.Stage.TheVariants.{Owing, Blob}
 use Rattle.rules.specs.declared.pending.Entry.{Entry}
-use Rattle.rules.specs.State.{Opening, State, with_name, with_opening, with_admitted}
+use Rattle.rules.specs.State.{State, with_name, with_opening, with_admitted}
 use Rattle.rules.specs.Chunks.{header_ok}
 use Rattle.rules.specs.Track.{untouched}
 use Rattle.rules.specs.Tree.{Prog, done, ask}

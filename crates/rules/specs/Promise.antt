@@ -1,5 +1,5 @@
 -- The durability promise: what covered, forgotten and same file mean, and the three claims. Assumes nothing.
-use Rattle.std.specs.Prelude.{◌≡◌, ℕ, ◌<◌, ◌≤◌, Bool, true, ◌⊎◌, ◌↔◌, List, [], ◌∷◌, length, Some, None, Option}
+use Rattle.std.specs.Prelude.{◌≡◌, ℕ, ◌<◌, ◌≤◌, Bool, true, ◌⊎◌, ◌↔◌, List, [], ◌∷◌, length, Some}
 use Rattle.keys.specs.Keys.{KeyName}
 use Rattle.disk.specs.Files.{DiskState, FileState}
 use Rattle.disk.specs.Requests.{Request, Answer}

@@ -1,5 +1,5 @@
 -- Remove, of a name and of a partition. Assumes nothing.
-use Rattle.std.specs.Prelude.{ℕ, Bool, cond, List, Some, None, Ok, Err, Option, Result, ◌==◌}
+use Rattle.std.specs.Prelude.{ℕ, cond, List, Some, None, Ok, Err, Option, Result, ◌==◌}
 use Rattle.faults.specs.Numbers.{code}
 use Rattle.faults.specs.declared.disk.UnbindFault.{UnbindFault}
 use Rattle.faults.specs.declared.disk.WriteFault.{WriteFault}

@@ -1,5 +1,5 @@
 -- What a store holds besides its disk. Assumes nothing.
-use Rattle.std.specs.Prelude.{ℕ, ◌+◌, ◌-◌, Bool, true, false, Some, None, Option, nat_eq}
+use Rattle.std.specs.Prelude.{ℕ, Bool, true, false, Option, nat_eq}
 use Rattle.keys.specs.Keys.{KeyName, same_key}
 use Rattle.table.specs.Maps.{Map, put, none}
 use Rattle.rules.specs.declared.opening.Account.{Account}

@@ -1,5 +1,5 @@
 -- Run, both halves of a flush, and abandon: what is done with a ticket. Assumes nothing.
-use Rattle.std.specs.Prelude.{ℕ, ◌+◌, Bool, true, false, cond, not, ◌&&◌, ◌||◌, List, [], length, Some, None, Ok, Err, Option, Result, ◌==◌, nat_le}
+use Rattle.std.specs.Prelude.{ℕ, Bool, true, false, cond, not, ◌&&◌, ◌||◌, List, length, Some, None, Ok, Err, Option, Result, ◌==◌, nat_le}
 use Rattle.faults.specs.Numbers.{refusal}
 use Rattle.faults.specs.declared.disk.DiskFault.TheVariants.{Code}
 use Rattle.faults.specs.declared.disk.FlushFault.{FlushFault}
