@@ -4,12 +4,12 @@ use Rattle.std.proofs.Common.{◌≡◌, ℕ, zero, suc, ◌+◌, ◌-◌, ◌<�
 use lib.Dec.{nleb→lt, eqb_refl}
 use Rattle.faults.specs.Numbers.{code}
 use Rattle.faults.specs.declared.disk.WriteFault.{WriteFault}
-use Rattle.disk.specs.Requests.{Request, Answer, ask_write}
+use Rattle.disk.specs.Requests.{Request, ask_write}
 use Rattle.rules.specs.Chunks.{batch, ahead}
 use Rattle.rules.specs.State.{State, empty}
-use Rattle.rules.specs.Submissions.{Transfer, path, Loss, by_code, nothing_landed, Outcome, landed, lost, patience, Submitted, Submits, all, more, stuck, again, worn, unhinted, broken}
+use Rattle.rules.specs.Submissions.{Transfer, path, by_code, nothing_landed, Outcome, landed, lost, patience, Submitted, Submits, all, more, stuck, again, worn, unhinted, broken}
 use Rattle.rules.specs.Tree.{Prog, done, ask, submit, Runs}
-use Rattle.rules.specs.Calls.{Call, Reply, rule}
+use Rattle.rules.specs.Calls.{rule}
 use Rattle.cases.specs.Scripts.{Said, scripted, Turn, Plays, AllPlay}
 use Rattle.cases.proofs.Told.{told, behind}
 

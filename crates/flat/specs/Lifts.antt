@@ -27,7 +27,7 @@ there_as x y e = e ∙ ap Some (kept_is x y (nat_lt 0 y.holds || is_some y.key) 
 
 -- a file put back as it was
 pub put_same : (s : DiskState) (f : ℕ) (x : FileState) → s f ≡ Some x → put s f (Some x) ≡ s
-put_same s f x e = fun_ext (λ q. cond_both (q == f) (Some x) (s q) (λ v. v ≡ s q) (λ t. sym (ap s (eqb-true q f t) ∙ e)) (λ t. refl))
+put_same s f x e = fun_ext (λ q. cond_both (f == q) (Some x) (s q) (λ v. v ≡ s q) (λ t. sym e ∙ ap s (eqb-true f q t)) (λ t. refl))
 
 -- ---- a file that is held
 
@@ -75,9 +75,9 @@ module _ (xs : List FileSlot) (f i : ℕ) (d : FileSlot) (p : HeldAt (meaning_of
 abbrev pub Keeps : FileState → FileState → Type 0
 Keeps x y = (y.key ≡ x.key) × (y.holds ≡ x.holds)
 
-pub keeps_write : (at : ℕ) (given : List ℕ) (durably : Bool) (x : FileState) (r : Result ℕ WriteFault) → Keeps x (after_write at given durably x r)
-keeps_write at given durably x (Ok c) = (refl, refl)
-keeps_write at given durably x (Err e) = (refl, refl)
+pub keeps_write : (begin : ℕ) (given : List ℕ) (durably : Bool) (x : FileState) (r : Result ℕ WriteFault) → Keeps x (after_write begin given durably x r)
+keeps_write begin given durably x (Ok c) = (refl, refl)
+keeps_write begin given durably x (Err e) = (refl, refl)
 
 pub keeps_resize : (end : ℕ) (x : FileState) (r : Result (Unit {0}) ResizeFault) → Keeps x (after_resize end x r)
 keeps_resize end x (Ok u) = (refl, refl)

@@ -56,7 +56,7 @@ unheld_kept x e =
 
 -- ---- one place
 
-nth_set : {X : Type 0} (xs : List X) (i : ℕ) (y : X) (q : ℕ) → i < length xs → slice_get (slice_set xs i y) q ≡ cond (q == i) (Some y) (slice_get xs q)
+nth_set : {X : Type 0} (xs : List X) (i : ℕ) (y : X) (q : ℕ) → i < length xs → slice_get (slice_set xs i y) q ≡ cond (i == q) (Some y) (slice_get xs q)
 nth_set [] i y q h = absurd (omega arith)
 nth_set (x ∷ xs) zero y zero h = refl
 nth_set (x ∷ xs) zero y (suc q) h = grind (arith, nat_tests)
@@ -66,7 +66,7 @@ nth_set (x ∷ xs) (suc i) y (suc q) h = let e = nth_set xs i y q (omega arith) 
 files_set : (vs : List FileState) (i : ℕ) (y : FileState) → i < length vs → files_of (slice_set vs i y) ≡ put (files_of vs) i (kept y)
 unfolding files_of
 files_set vs i y h = fun_ext (λ q.
-    ap live (nth_set vs i y q h) ∙ elim (q == i) as (λ b. live (cond b (Some y) (slice_get vs q)) ≡ cond b (kept y) (live (slice_get vs q))) [ true ↦ refl | false ↦ refl ])
+    ap live (nth_set vs i y q h) ∙ elim (i == q) as (λ b. live (cond b (Some y) (slice_get vs q)) ≡ cond b (kept y) (live (slice_get vs q))) [ true ↦ refl | false ↦ refl ])
 
 module _ (xs : List FileSlot) (i : ℕ) where
   -- the file of a place is what its slot stands for

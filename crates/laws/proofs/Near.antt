@@ -33,7 +33,7 @@ cond_off true x y off = absurd (off refl)
 cond_off false x y off = refl
 
 pub name_apart : (s : State) (q : KeyName) (w : Option Entry) (p : KeyName) → (p ≡ q → ⊥) → (with_name s q w).names.at p ≡ s.names.at p
-name_apart s q w p apart = cond_off (same_key p q) w (s.names.at p) (λ e. apart ((same_key_decides p q).0 e))
+name_apart s q w p apart = cond_off (same_key q p) w (s.names.at p) (λ e. apart (sym ((same_key_decides q p).0 e)))
 
 -- ---- a call about the subject j and its opening n, made in s
 

@@ -50,7 +50,7 @@ Fit v = (k : Ticket) (w : Writing) → v ≡ Some k → k.step ≡ Write w → p
 
 changed : (m : Map ℕ Ticket) (t : ℕ) (v : Option Ticket) → Reachable m → Fit v → Reachable (put eqb m t v)
 changed m t v h new u k w e step =
-    elim (cases_Bool (eqb u t)) [ inl b ↦ new k w (rw b at e) step | inr b ↦ h u k w (rw b at e) step ]
+    elim (cases_Bool (eqb t u)) [ inl b ↦ new k w (rw b at e) step | inr b ↦ h u k w (rw b at e) step ]
 
 fit_none : Fit None
 fit_none k w e step = let z : ◌≡◌ {A = ℕ} 0 1 = cc in absurd (omega arith)

@@ -1,6 +1,5 @@
 -- What holds of every way that a program may end, whatever the disk answers. Assumes nothing.
-use Rattle.std.specs.Prelude.{Bool}
-use Rattle.disk.specs.Requests.{Request, Answer}
+use Rattle.disk.specs.Requests.{Answer}
 use Rattle.rules.specs.Submissions.{Outcome}
 use Rattle.rules.specs.Tree.{Prog, done, ask, submit}
 

@@ -1,5 +1,5 @@
 -- The numbers of openings and tickets are new each time. Assumes nothing.
-use Rattle.std.specs.Prelude.{◌≡◌, ℕ, ◌+◌, ◌≤◌, List, Ok, Err}
+use Rattle.std.specs.Prelude.{◌≡◌, ℕ, ◌+◌, ◌≤◌, Ok, Err}
 use Rattle.disk.specs.Requests.{Request, Answer}
 use Rattle.rules.specs.State.{State}
 use Rattle.rules.specs.Tree.{Runs}

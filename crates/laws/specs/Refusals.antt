@@ -1,5 +1,5 @@
 -- What a refused call leaves, and that refusals for want of room have their cause. Assumes nothing.
-use Rattle.std.specs.Prelude.{◌≡◌, ℕ, ◌+◌, ◌<◌, ◌≤◌, Bool, true, false, ◌⊎◌, List, Some, None, Ok, Err, Option}
+use Rattle.std.specs.Prelude.{◌≡◌, ℕ, ◌+◌, ◌<◌, ◌≤◌, true, ◌⊎◌, List, Some, None, Err, Option}
 use Rattle.faults.specs.Numbers.{number}
 use Rattle.faults.specs.declared.store.Fault.{Fault}
 use Rattle.faults.specs.declared.store.Fault.TheVariants.{Full, Exhausted, Unsettled}
@@ -11,7 +11,7 @@ use Rattle.rules.specs.declared.opening.Account.{Account}
 use Rattle.rules.specs.declared.ticket.Ticket.{Ticket}
 use Rattle.rules.specs.State.{Opening, State}
 use Rattle.rules.specs.Tree.{Runs}
-use Rattle.rules.specs.Calls.{Call, Reply, rule, to_open, to_finish, to_give_up, to_close, to_write, to_resize, to_sync, to_run, to_start, to_end, to_abandon, to_remove_name, to_remove_partition, to_count, to_share, to_list, to_read}
+use Rattle.rules.specs.Calls.{Call, rule, to_open, to_finish, to_give_up, to_close, to_write, to_resize, to_sync, to_run, to_start, to_end, to_abandon, to_remove_name, to_remove_partition, to_count, to_share, to_list, to_read}
 use Rattle.laws.specs.Rows.{among, rows, changing}
 
 -- ---- what may change, where something may

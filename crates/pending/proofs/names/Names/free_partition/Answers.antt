@@ -10,8 +10,8 @@ use Rattle.table.proofs.Others.{others_removed, others_all, map_others}
 use Rattle.pending.specs.Slots.{key_of, entry_of, is_in}
 use Rattle.pending.proofs.names.Names.free_partition.Goals as goal
 
-pub invariant_of-self : goal.invariant_of-self
-invariant_of-self c = (omega arith, (omega arith, (entries.apart_taken same_key same_key_tells key_of _ _ _ c.remove.ensures.items c.loop-i.self.distinct, tt)))
+pub invariant_of-self-clause-distinct : goal.invariant_of-self-clause-distinct
+invariant_of-self-clause-distinct c = entries.apart_taken same_key same_key_tells key_of _ _ _ c.remove.ensures.items c.loop-i.self.distinct
 
 pub loop-i-preserved-then-is_in : goal.loop-i-preserved-then-is_in
 loop-i-preserved-then-is_in c =

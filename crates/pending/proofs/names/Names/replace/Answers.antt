@@ -1,4 +1,4 @@
-use Rattle.std.proofs.Common.{Some, Option, sym, refl, ap, ◌∙◌, rules}
+use Rattle.std.proofs.Common.{Some, Option, sym, refl, ap, ◌∙◌}
 use Rattle.std.specs.Option.{option_and}
 use Rattle.keys.specs.Keys.{key_name, same_key}
 use Rattle.keys.proofs.Same.{same_key_tells}
@@ -9,9 +9,9 @@ use Rattle.pending.specs.Slots.{key_of, entry_of}
 use Rattle.pending.specs.Of.{map}
 use Rattle.pending.proofs.names.Names.replace.Goals as goal
 
-pub invariant_of-self : goal.invariant_of-self
-invariant_of-self c =
-    (search rules, (search rules, (entries.apart_change same_key same_key_tells key_of _ _ _ _ _ c.in-Some.ensures c.index_mut.ensures.value refl c.args.self.now.distinct, tt)))
+pub invariant_of-self-clause-distinct : goal.invariant_of-self-clause-distinct
+invariant_of-self-clause-distinct c =
+    entries.apart_change same_key same_key_tells key_of _ _ _ _ _ c.in-Some.ensures c.index_mut.ensures.value refl c.args.self.now.distinct
 
 pub returns-in-Some : goal.returns-in-Some
 returns-in-Some c =

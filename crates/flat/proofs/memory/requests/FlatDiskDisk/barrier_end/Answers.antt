@@ -11,4 +11,7 @@ pub invariant_of-self-2 : goal.invariant_of-self-2
 invariant_of-self-2 c =
     let d = c.args.self.now in
     let s = flat_meaning d in
-    (subst Distinct (sym (ap (λ v. v.1) c.reach.ensures.did)) (edited_distinct flush_fault end_answer (after_end c.args.mark) (keeps_end c.args.mark) s c.args.file d.distinct), (c.reach.ensures.numbers ∙ d.order, tt))
+    record {
+      distinct = subst Distinct (sym (ap (λ v. v.1) c.reach.ensures.did)) (edited_distinct flush_fault end_answer (after_end c.args.mark) (keeps_end c.args.mark) s c.args.file d.distinct);
+      order = c.reach.ensures.numbers ∙ d.order;
+    }

@@ -8,4 +8,7 @@ pub invariant_of-self : goal.invariant_of-self
 invariant_of-self c =
     let d = c.args.self.now in
     let s = flat_meaning d in
-    (subst Distinct (sym c.close.ensures.did) (close_distinct s c.args.file d.distinct), (c.close.ensures.numbers ∙ d.order, tt))
+    record {
+      distinct = subst Distinct (sym c.close.ensures.did) (close_distinct s c.args.file d.distinct);
+      order = c.close.ensures.numbers ∙ d.order;
+    }

@@ -11,4 +11,7 @@ pub invariant_of-self-2 : goal.invariant_of-self-2
 invariant_of-self-2 c =
     let d = c.args.self.now in
     let s = flat_meaning d in
-    (subst Distinct (sym (ap (λ v. v.1) c.header.ensures.did)) (edited_distinct write_fault (header_answer (length c.args.bytes.now)) (after_header c.args.bytes.now) (keeps_header c.args.bytes.now) s c.args.file d.distinct), (c.header.ensures.numbers ∙ d.order, tt))
+    record {
+      distinct = subst Distinct (sym (ap (λ v. v.1) c.header.ensures.did)) (edited_distinct write_fault (header_answer (length c.args.bytes.now)) (after_header c.args.bytes.now) (keeps_header c.args.bytes.now) s c.args.file d.distinct);
+      order = c.header.ensures.numbers ∙ d.order;
+    }

@@ -9,4 +9,7 @@ pub invariant_of-self-2 : goal.invariant_of-self-2
 invariant_of-self-2 c =
     let d = c.args.self.now in
     let s = flat_meaning d in
-    (subst Distinct (sym (ap (λ v. v.1) c.open.ensures.did)) (open_distinct s (key_name c.args.key.now) (small d.files.slots d.order) d.distinct), (c.open.ensures.numbers ∙ d.order, tt))
+    record {
+      distinct = subst Distinct (sym (ap (λ v. v.1) c.open.ensures.did)) (open_distinct s (key_name c.args.key.now) (small d.files.slots d.order) d.distinct);
+      order = c.open.ensures.numbers ∙ d.order;
+    }

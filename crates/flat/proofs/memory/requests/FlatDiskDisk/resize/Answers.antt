@@ -12,4 +12,7 @@ pub invariant_of-self-2 : goal.invariant_of-self-2
 invariant_of-self-2 c =
     let d = c.args.self.now in
     let s = flat_meaning d in
-    (subst Distinct (sym (ap (λ v. v.1) c.resize.ensures.did)) (edited_distinct resize_fault (resize_answer (place c.args.end)) (after_resize (place c.args.end)) (keeps_resize (place c.args.end)) s c.args.file d.distinct), (c.resize.ensures.numbers ∙ d.order, tt))
+    record {
+      distinct = subst Distinct (sym (ap (λ v. v.1) c.resize.ensures.did)) (edited_distinct resize_fault (resize_answer (place c.args.end)) (after_resize (place c.args.end)) (keeps_resize (place c.args.end)) s c.args.file d.distinct);
+      order = c.resize.ensures.numbers ∙ d.order;
+    }

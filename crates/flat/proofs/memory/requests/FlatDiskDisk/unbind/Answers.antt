@@ -9,4 +9,7 @@ pub invariant_of-self-2 : goal.invariant_of-self-2
 invariant_of-self-2 c =
     let d = c.args.self.now in
     let s = flat_meaning d in
-    (subst Distinct (sym (ap (λ v. v.1) c.unbind.ensures.did)) (unbind_distinct (same_key (key_name c.args.key.now)) s d.distinct), (c.unbind.ensures.numbers ∙ d.order, tt))
+    record {
+      distinct = subst Distinct (sym (ap (λ v. v.1) c.unbind.ensures.did)) (unbind_distinct (same_key (key_name c.args.key.now)) s d.distinct);
+      order = c.unbind.ensures.numbers ∙ d.order;
+    }

@@ -13,4 +13,7 @@ pub invariant_of-self : goal.invariant_of-self
 invariant_of-self c =
     let d = c.args.self.now in
     let s = flat_meaning d in
-    (subst Distinct (sym (ap (λ v. v.1) c.write.ensures.did)) (edited_distinct write_fault (write_answer (place c.args.offset) (length c.args.bytes.now) (durable c.args.path) c.in-Ok.limit) (after_write (place c.args.offset) c.args.bytes.now (durable c.args.path)) (keeps_write (place c.args.offset) c.args.bytes.now (durable c.args.path)) s c.args.file d.distinct), (c.write.ensures.numbers ∙ d.order, tt))
+    record {
+      distinct = subst Distinct (sym (ap (λ v. v.1) c.write.ensures.did)) (edited_distinct write_fault (write_answer (place c.args.offset) (length c.args.bytes.now) (durable c.args.path) c.in-Ok.limit) (after_write (place c.args.offset) c.args.bytes.now (durable c.args.path)) (keeps_write (place c.args.offset) c.args.bytes.now (durable c.args.path)) s c.args.file d.distinct);
+      order = c.write.ensures.numbers ∙ d.order;
+    }
