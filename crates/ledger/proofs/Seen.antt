@@ -13,7 +13,7 @@ use Rattle.ledger.specs.declared.tables.Ledger.{Ledger}
 
 mapped_update : {K X Y : Type 0} (same : K → K → Bool) (v : X → Y) (f : K → Option X) (k : K) (w : Option X) (q : K) → option_map v (update same f k w q) ≡ update same (λ k. option_map v (f k)) k (option_map v w) q
 mapped_update same v f k w q =
-    elim (same q k) as (λ b. option_map v (cond b w (f q)) ≡ cond b (option_map v w) (option_map v (f q))) [ true ↦ refl | false ↦ refl ]
+    elim (same k q) as (λ b. option_map v (cond b w (f q)) ≡ cond b (option_map v w) (option_map v (f q))) [ true ↦ refl | false ↦ refl ]
 
 rekeyed_mapped : {K X Y : Type 0} (same : K → K → Bool) (v : X → Y) (ks : List K) (k : K) (a w : Option X) → rekeyed same ks k a w ≡ rekeyed same ks k (option_map v a) (option_map v w)
 rekeyed_mapped same v ks k None None = refl

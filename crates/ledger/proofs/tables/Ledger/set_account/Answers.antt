@@ -1,4 +1,4 @@
-use Rattle.std.proofs.Common.{Some, Option, ap, ◌∙◌}
+use Rattle.std.proofs.Common.{Option, ap, ◌∙◌}
 use Rattle.std.specs.Option.{option_map}
 use Rattle.table.specs.Of as tables
 use Rattle.rules.specs.State.{Opening, with_account, with_opening}
