@@ -2,7 +2,7 @@
 use Rattle.std.specs.Prelude.{◌≡◌, ℕ, zero, suc, ◌+◌, ◌-◌, ◌<◌, ◌≤◌, Bool, true, false, cond, ◌||◌, List, [], ◌∷◌, map, length, is_some, Some, None, Ok, Err, Option, Result, ◌==◌, nat_lt, slice_index_or, slice_set, refl}
 use Rattle.std.proofs.Common.{sym, ap, ◌∙◌, add-zero, arith}
 use Rattle.std.proofs.Math.Path.{fun_ext}
-use Rattle.std.specs.List.{slice_get, AllByRecursion as All}
+use Rattle.std.specs.List.{slice_get, AllByRecursion}
 use Rattle.std.specs.Option.{option_map}
 use Rattle.std.proofs.lemmas.Bool.{lt-ltb, le-ltb, ltb-true, ltb-false, lt-leb, le-leb, cond_both, eqb-true}
 use Rattle.faults.specs.declared.disk.DiskFault.{DiskFault}
@@ -141,11 +141,11 @@ unbinds going xs ys (Some i) e f = ap (λ m. (Ok tt, m)) (forgot_all going xs ys
 vacant_slot : (x : FileState) → x.holds ≡ 0 → x.key ≡ None → kept x ≡ None
 vacant_slot x h k = ap (λ b. cond (b || is_some x.key) (Some x) None) (le-ltb 0 x.holds (omega arith)) ∙ ap (λ o. cond (is_some o) (Some x) None) k
 
-vacant_at : (xs : List FileSlot) → All (λ s. (s.holds ≡ 0) × (s.key ≡ None)) xs → (i : ℕ) → live (slice_get (map state xs) i) ≡ None
+vacant_at : (xs : List FileSlot) → AllByRecursion (λ s. (s.holds ≡ 0) × (s.key ≡ None)) xs → (i : ℕ) → live (slice_get (map state xs) i) ≡ None
 vacant_at [] a i = refl
 vacant_at (s ∷ xs) a zero = vacant_slot (state s) a.0.0 (ap (option_map key_name) a.0.1)
 vacant_at (s ∷ xs) a (suc i) = vacant_at xs a.1 i
 
-pub vacant : (xs : List FileSlot) → All (λ s. (s.holds ≡ 0) × (s.key ≡ None)) xs → meaning_of xs ≡ (λ _. None)
+pub vacant : (xs : List FileSlot) → AllByRecursion (λ s. (s.holds ≡ 0) × (s.key ≡ None)) xs → meaning_of xs ≡ (λ _. None)
 unfolding files_of
 vacant xs a = fun_ext (vacant_at xs a)

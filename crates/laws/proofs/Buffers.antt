@@ -1,6 +1,6 @@
 -- The buffers of a submission join to its bytes, and are as pwritev2(2) asks. Assumes nothing.
 use Rattle.std.proofs.Common.{◌≡◌, ℕ, zero, suc, ◌+◌, ◌-◌, ◌<◌, ◌≤◌, cond, ◌&&◌, eqb, leb, List, [], ◌∷◌, ◌++◌, length, take, drop, refl, ap, ◌∙◌, inl, inr, arith, take-add}
-use Rattle.std.specs.List.{AllByRecursion as All}
+use Rattle.std.specs.List.{AllByRecursion}
 use Rattle.std.proofs.lemmas.List.{length-take, length-drop, length-append, drop-drop}
 use Rattle.std.proofs.lemmas.Bool.{cases_Bool, cond_both, leb-true, leb-false, eqb-true, and_parts, ne_eqb}
 use Rattle.disk.specs.Pages.{joined}
@@ -45,15 +45,15 @@ some (suc c) body (l ∷ ls) landed p h =
     cond_both (leb l landed) _ _ (λ (bs : List (List ℕ)). 0 < length bs) (λ e. some (suc c) (drop l body) ls (landed - l) p (omega (arith, leb-true l landed e))) (λ _. omega arith)
 
 -- and none is empty
-filled : (c : ℕ) (body lengths : List ℕ) (landed : ℕ) → total lengths ≤ length body → All (λ b. 0 < length b) (pieces c body lengths landed)
+filled : (c : ℕ) (body lengths : List ℕ) (landed : ℕ) → total lengths ≤ length body → AllByRecursion (λ b. 0 < length b) (pieces c body lengths landed)
 filled c body [] landed h = tt
 filled zero body (l ∷ ls) landed h = tt
 filled (suc c) body (l ∷ ls) landed h =
     let n = length-drop l body in
-    cond_both (leb l landed) _ _ (All (λ b. 0 < length b)) (λ _. filled (suc c) (drop l body) ls (landed - l) (omega arith))
+    cond_both (leb l landed) _ _ (AllByRecursion (λ b. 0 < length b)) (λ _. filled (suc c) (drop l body) ls (landed - l) (omega arith))
     (λ e. (simp (length-take, length-drop) (omega (arith, leb-false l landed e)), filled c (drop l body) ls 0 (omega arith)))
 
-least : (bs : List (List ℕ)) → 0 < length bs → All (λ b. 0 < length b) bs → 0 < length (joined bs)
+least : (bs : List (List ℕ)) → 0 < length bs → AllByRecursion (λ b. 0 < length b) bs → 0 < length (joined bs)
 unfolding joined
 least [] p h = absurd (omega arith)
 least (b ∷ bs) p h = simp length-append (omega arith)

@@ -1,6 +1,6 @@
 -- The buffers of a submission, and that each is one that pwritev2(2) accepts. Assumes nothing.
 use Rattle.std.specs.Prelude.{◌≡◌, ℕ, zero, suc, ◌+◌, ◌-◌, ◌<◌, ◌≤◌, true, cond, List, [], ◌∷◌, length, take, drop, Some, Ok, nat_le}
-use Rattle.std.specs.List.{AllByRecursion as All}
+use Rattle.std.specs.List.{AllByRecursion}
 use Rattle.disk.specs.Offsets.{place}
 use Rattle.disk.specs.Pages.{Accepted, joined}
 use Rattle.disk.specs.Requests.{Request, Answer}
@@ -28,7 +28,7 @@ buffers body lengths landed = pieces batch body lengths landed
 -- there is something to land
 pub record Submission (offset : ℕ) (bytes : List ℕ) (given : List (List ℕ)) : Type 0 where
   pub some : 1 ≤ length given
-  pub filled : All (λ b. 0 < length b) given
+  pub filled : AllByRecursion (λ b. 0 < length b) given
   pub whole : joined given ≡ bytes
   pub least : 1 ≤ length bytes
   pub most : length bytes ≤ 16777216
