@@ -2,8 +2,7 @@
 .PHONY: test run
 
 test:
-	rt ci
+	tools/gate
 
 run:
-	rt check roll
-	target/bin/roll
+	cd crates/roll && rt run

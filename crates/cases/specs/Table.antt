@@ -1,4 +1,4 @@
--- The cases of the rules. Each begins with an empty store; `open-fresh` gives its first blob, of number 1, on file 0, whose
+-- The cases of the rules. Each begins with an empty store; `open_fresh` gives its first blob, of number 1, on file 0, whose
 -- data begin at offset 16. Assumes nothing.
 use Rattle.std.specs.Prelude.{ℕ, ◌-◌, ◌^◌, true, false, List, [], ◌∷◌, ◌++◌, replicate, Ok, Err, Result}
 use Rattle.faults.specs.declared.disk.DiskFault.TheVariants.{Code}

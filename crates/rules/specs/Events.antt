@@ -41,7 +41,7 @@ pub data Item : Type 0 where
   -- the opening became a blob
   yielded : (opening : ℕ) → Item
   -- a mutation of the opening was given its ticket; counted, or else fused
-  begun : (opening ticket : ℕ) → (is-counted : Bool) → Item
+  begun : (opening ticket : ℕ) → (is_counted : Bool) → Item
   -- a counted mutation finished; so many mutations had landed on its file then
   finished : (opening ticket n : ℕ) → Item
   -- a fused write finished; every write asked for it was durable, or not
