@@ -43,6 +43,7 @@ impl PartialEq for Key {
 
     ghost laws = { on_per key_name same_key_laws };
 
+    #[tactic(auto, unfolding(crate::specs::Keys::same_key))]
     fn eq(&self, other: &Key) -> bool
         ensures answer { result ≡ same_key (key_name self.now) (key_name other.now) }
         ensures bytes { Decides result (key_name self.now ≡ key_name other.now) }
