@@ -3,7 +3,7 @@
 use Rattle.std.proofs.Common.{◌≡◌, ℕ, zero, suc, ◌+◌, ◌-◌, ◌<◌, ◌≤◌, Bool, true, false, cond, not, T, eqb, leb, List, [], ◌∷◌, ◌++◌, length, take, drop, Ok, Err, Result, refl, ap, subst, suc-le-suc, zero-le, eqb→eq, leb→le, T_not}
 use lib.Dec.{nleb→lt, eqb_refl}
 use Rattle.faults.specs.Numbers.{code}
-use Rattle.faults.specs.declared.disk.WriteFault.{WriteFault}
+use Rattle.faults.specs.Kinds.{WriteFault}
 use Rattle.disk.specs.Requests.{Request, ask_write}
 use Rattle.rules.specs.Chunks.{batch, ahead}
 use Rattle.rules.specs.State.{State, empty}

@@ -1,13 +1,12 @@
 -- Each case of the table, replayed, is itself. antt computes both and compares them. Assumes nothing.
 use Rattle.std.proofs.Common.{◌≡◌, refl, subst}
-use Rattle.keys.specs.Names.{all_plain}
-use Rattle.keys.specs.Keys.{same_key}
+use Rattle.keys.specs.KeyName.{same_key}
 use Rattle.cases.specs.Scripts.{AllPlay}
 use Rattle.cases.specs.Table.{cases}
 use Rattle.cases.proofs.Replay.{replay_all, all_play}
 
 same : replay_all cases ≡ cases
-unfolding cases all_plain same_key
+unfolding cases same_key
 same = refl
 
 pub cases_play : AllPlay cases

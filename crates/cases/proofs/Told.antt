@@ -1,6 +1,7 @@
 -- The answer that a script has for a request, taken for what that request is answered with. Where it is none, any answer does:
 -- what was asked is then not what the script says. Assumes nothing.
 use Rattle.std.proofs.Common.{ℕ, List, [], ◌∷◌, Ok, Err, Result}
+use Rattle.faults.specs.Kinds.{failed}
 use Rattle.faults.specs.declared.disk.DiskFault.{DiskFault}
 use Rattle.disk.specs.Requests.{Request, Answer, ask_open, ask_close, ask_length, ask_read, ask_write, ask_resize, ask_start, ask_end, ask_header, ask_flush_directory, ask_flush_root, ask_unbind, ask_unbind_partition}
 use Rattle.cases.specs.Scripts.{Said}
@@ -56,19 +57,19 @@ plainly (ask_unbind q) a = from_result from_unit (λ e. e.0) a
 plainly (ask_unbind_partition p) a = from_result from_unit (λ e. e.0) a
 
 abbrev pub answering : (q : Request) → Plain → Answer q
-answering (ask_open q) x = to_result to_number (λ f. record { 0 = f }) x
+answering (ask_open q) x = to_result to_number failed x
 answering (ask_close f) x = tt
-answering (ask_length f) x = to_result to_number (λ f. record { 0 = f }) x
-answering (ask_read f at room) x = to_result to_bytes (λ f. record { 0 = f }) x
-answering (ask_write f at given p) x = to_result to_number (λ f. record { 0 = f }) x
-answering (ask_resize f end) x = to_result to_unit (λ f. record { 0 = f }) x
+answering (ask_length f) x = to_result to_number failed x
+answering (ask_read f at room) x = to_result to_bytes failed x
+answering (ask_write f at given p) x = to_result to_number failed x
+answering (ask_resize f end) x = to_result to_unit failed x
 answering (ask_start f) x = to_number x
-answering (ask_end f mark) x = to_result to_unit (λ f. record { 0 = f }) x
-answering (ask_header f xs) x = to_result to_unit (λ f. record { 0 = f }) x
-answering (ask_flush_directory p) x = to_result to_unit (λ f. record { 0 = f }) x
-answering ask_flush_root x = to_result to_unit (λ f. record { 0 = f }) x
-answering (ask_unbind q) x = to_result to_unit (λ f. record { 0 = f }) x
-answering (ask_unbind_partition p) x = to_result to_unit (λ f. record { 0 = f }) x
+answering (ask_end f mark) x = to_result to_unit failed x
+answering (ask_header f xs) x = to_result to_unit failed x
+answering (ask_flush_directory p) x = to_result to_unit failed x
+answering ask_flush_root x = to_result to_unit failed x
+answering (ask_unbind q) x = to_result to_unit failed x
+answering (ask_unbind_partition p) x = to_result to_unit failed x
 
 -- what the script answers to q, and the script behind that
 abbrev pub told : (q : Request) → List Said → Answer q

@@ -2,10 +2,10 @@
 -- data begin at offset 16. Assumes nothing.
 use Rattle.std.specs.Prelude.{ℕ, ◌-◌, ◌^◌, true, false, List, [], ◌∷◌, ◌++◌, replicate, Ok, Err, Result}
 use Rattle.faults.specs.declared.disk.DiskFault.TheVariants.{Code}
-use Rattle.faults.specs.declared.disk.WriteFault.{WriteFault}
+use Rattle.faults.specs.Kinds.{failed, WriteFault}
 use Rattle.faults.specs.declared.store.Fault.{Fault}
 use Rattle.faults.specs.declared.store.Fault.TheVariants.{BlobAlreadyOpen, OffsetOverflow, Io, WriteFailed, BlobSyncFailed, BlobResizeFailed, Flushing, Unsettled}
-use Rattle.keys.specs.Keys.{KeyName}
+use Rattle.keys.specs.KeyName.{KeyName}
 use Rattle.disk.specs.Requests.{ask_open, ask_close, ask_length, ask_write, ask_start, ask_end, ask_header, ask_flush_directory, ask_flush_root, ask_unbind, ask_unbind_partition}
 use Rattle.disk.specs.declared.path.Path.{Path}
 use Rattle.disk.specs.declared.path.Path.TheVariants.{Single, Vectored}
@@ -110,7 +110,7 @@ abbrev pub ends : ℕ → ℕ → Turn
 ends t mark = asks (to_end t) ((ask_end 0 mark, Ok tt) ∷ []) (Ok tt)
 
 abbrev pub ends_badly : ℕ → ℕ → Turn
-ends_badly t mark = asks (to_end t) ((ask_end 0 mark, Err (record { 0 = Code 5 })) ∷ []) (Err (BlobSyncFailed (Code 5)))
+ends_badly t mark = asks (to_end t) ((ask_end 0 mark, Err (failed (Code 5))) ∷ []) (Err (BlobSyncFailed (Code 5)))
 
 -- ---- the cases
 
@@ -221,7 +221,7 @@ cases =
     abandons 1 ∷
     closes 1 0 ∷
     open_owing 2 1 ∷
-    asks (to_finish 2) ((ask_start 1, 30) ∷ (ask_end 1 30, Err (record { 0 = Code 5 })) ∷ (ask_close 1, tt) ∷ []) (Err (BlobSyncFailed (Code 5))) ∷
+    asks (to_finish 2) ((ask_start 1, 30) ∷ (ask_end 1 30, Err (failed (Code 5))) ∷ (ask_close 1, tt) ∷ []) (Err (BlobSyncFailed (Code 5))) ∷
     asks (to_open key Existing header) ((ask_open key, Ok 2) ∷ (ask_close 2, tt) ∷ []) (Err (BlobSyncFailed (Code 5))) ∷ []) ∷
     -- a fresh opening forgets what its name owed
     (open_fresh 1 0 ∷
@@ -263,18 +263,18 @@ cases =
     -- a hint that meets code 95 is dropped, for the write and then for its opening
     (open_fresh 1 0 ∷
     writes 1 0 1 hinted ∷
-    runs_byte 1 (byte_by (Vectored false true) (Err (record { 0 = Code 95 })) ∷ byte_by (Vectored false false) (Ok 1) ∷ []) (Ok (ran 2)) ∷
+    runs_byte 1 (byte_by (Vectored false true) (Err (failed (Code 95))) ∷ byte_by (Vectored false false) (Ok 1) ∷ []) (Ok (ran 2)) ∷
     writes 2 0 1 hinted ∷
     runs 2 ∷ []) ∷
     -- 63 interruptions are borne
     (open_fresh 1 0 ∷
     writes 1 0 1 plain ∷
-    runs_byte 1 (replicate 63 (byte_by Single (Err (record { 0 = Code 4 }))) ++ byte_by Single (Ok 1) ∷ []) (Ok (ran 64)) ∷
+    runs_byte 1 (replicate 63 (byte_by Single (Err (failed (Code 4)))) ++ byte_by Single (Ok 1) ∷ []) (Ok (ran 64)) ∷
     counts 1 1 0 ∷ []) ∷
     -- 64 end the write with 8 and code 4
     (open_fresh 1 0 ∷
     writes 1 0 1 plain ∷
-    runs_byte 1 (replicate 64 (byte_by Single (Err (record { 0 = Code 4 })))) (Err (Io (Code 4))) ∷
+    runs_byte 1 (replicate 64 (byte_by Single (Err (failed (Code 4))))) (Err (Io (Code 4))) ∷
     counts 1 0 0 ∷ []) ∷
     -- nothing landed by the single-buffer path is 8 with code 0
     (open_fresh 1 0 ∷

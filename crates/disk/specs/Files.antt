@@ -1,7 +1,7 @@
 -- What a disk stands for: its files by number, each with the key that it is bound to. Assumes nothing.
 use Rattle.std.specs.Prelude.{◌≡◌, ℕ, ◌<◌, ◌≤◌, true, cond, ◌||◌, ◌⊎◌, List, [], is_some, Some, None, Option, nat_eq, nat_lt}
 use Rattle.std.specs.Map.{update}
-use Rattle.keys.specs.Keys.{KeyName}
+use Rattle.keys.specs.KeyName.{KeyName}
 
 -- a file: its key or none, its bytes, how many mutations have landed, how many of these are covered, and how often it is held
 pub record FileState : Type 0 where

@@ -1,8 +1,7 @@
 -- That the disk's rules of writes and barriers are what the pages define. Assumes nothing.
 use Rattle.std.specs.Prelude.{◌≡◌, ℕ, ◌+◌, ◌≤◌, true, ◌⊎◌, ◌↔◌, List, [], ◌∷◌, length, Some, Ok, Err, nat_le}
 use Rattle.faults.specs.Numbers.{code}
-use Rattle.faults.specs.declared.disk.WriteFault.{WriteFault}
-use Rattle.faults.specs.declared.disk.FlushFault.{FlushFault}
+use Rattle.faults.specs.Kinds.{WriteFault, FlushFault}
 use Rattle.disk.specs.declared.path.Path.{Path}
 use Rattle.disk.specs.Paths.{durable}
 use Rattle.disk.specs.Files.{FileState, DiskState, Held, put}

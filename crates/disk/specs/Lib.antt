@@ -1,4 +1,3 @@
-pub mod Offsets
 pub mod Paths
 pub mod Laid
 pub mod Files

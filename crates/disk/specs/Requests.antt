@@ -1,12 +1,7 @@
 -- What a disk is asked, and what it answers. Assumes nothing.
 use Rattle.std.specs.Prelude.{◌≡◌, ℕ, List, take, drop, Ok, Err, Result}
-use Rattle.faults.specs.declared.disk.OpenFault.{OpenFault}
-use Rattle.faults.specs.declared.disk.WriteFault.{WriteFault}
-use Rattle.faults.specs.declared.disk.FlushFault.{FlushFault}
-use Rattle.faults.specs.declared.disk.ResizeFault.{ResizeFault}
-use Rattle.faults.specs.declared.disk.LengthFault.{LengthFault}
-use Rattle.faults.specs.declared.disk.UnbindFault.{UnbindFault}
-use Rattle.keys.specs.Keys.{KeyName}
+use Rattle.faults.specs.Kinds.{OpenFault, WriteFault, FlushFault, ResizeFault, LengthFault, UnbindFault}
+use Rattle.keys.specs.KeyName.{KeyName}
 use Rattle.disk.specs.declared.path.Path.{Path}
 
 pub data Request : Type 0 where

@@ -1,15 +1,9 @@
 -- The rules that every disk keeps: what each request may answer, and what it leaves then. Assumes nothing.
 use Rattle.std.specs.Prelude.{◌≡◌, ℕ, ◌+◌, ◌-◌, ◌≤◌, min, max, Bool, true, cond, ◌||◌, ◌⊎◌, List, length, take, drop, Some, None, Ok, Err, Option, Result, ◌==◌, ◌≢◌}
-use Rattle.std.specs.Str.{bytes_eq}
 use Rattle.faults.specs.Numbers.{code}
 use Rattle.faults.specs.declared.disk.DiskFault.{DiskFault}
-use Rattle.faults.specs.declared.disk.OpenFault.{OpenFault}
-use Rattle.faults.specs.declared.disk.WriteFault.{WriteFault}
-use Rattle.faults.specs.declared.disk.FlushFault.{FlushFault}
-use Rattle.faults.specs.declared.disk.ResizeFault.{ResizeFault}
-use Rattle.faults.specs.declared.disk.LengthFault.{LengthFault}
-use Rattle.faults.specs.declared.disk.UnbindFault.{UnbindFault}
-use Rattle.keys.specs.Keys.{KeyName, same_key}
+use Rattle.faults.specs.Kinds.{OpenFault, WriteFault, FlushFault, ResizeFault, LengthFault, UnbindFault}
+use Rattle.keys.specs.KeyName.{KeyName, same_key, in_partition}
 use Rattle.disk.specs.declared.path.Path.{Path}
 use Rattle.disk.specs.Paths.{durable}
 use Rattle.disk.specs.Laid.{laid, sized}
@@ -53,9 +47,6 @@ unnamed going (Some x) = unnamed_by going x x.key
 
 abbrev pub unbound : (KeyName → Bool) → DiskState → DiskState
 unbound going s = λ f. unnamed going (s f)
-
-abbrev pub in_partition : List ℕ → KeyName → Bool
-in_partition p q = bytes_eq q.partition p
 
 -- ---- what a request may answer, and what it leaves
 

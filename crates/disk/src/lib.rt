@@ -2,9 +2,7 @@
 #![tactic(auto)]
 
 ghost use Rattle.std.specs.Prelude.{length};
-ghost use Rattle.keys.specs.Keys.{key_name, partition_of};
 ghost use Rattle.disk.specs.Files.{DiskState, Valid};
-ghost use Rattle.disk.specs.Offsets.{place};
 ghost use Rattle.disk.specs.Requests.{Request, Answer, ask_open, ask_close, ask_length, ask_read, ask_write, ask_resize, ask_start, ask_end, ask_header, ask_flush_directory, ask_flush_root, ask_unbind, ask_unbind_partition, read_out, Spares};
 ghost use Rattle.disk.specs.Rules.{DiskRules};
 
@@ -28,7 +26,7 @@ pub trait Disk {
 
     // The file of a key, a new one if it has none, with one hold more.
     fn open(&mut self, key: &Key) -> Result<u64, OpenFault>
-        ensures { did self.old (ask_open (key_name key.now)) result self.new };
+        ensures { did self.old (ask_open key.now) result self.new };
 
     // One hold less.
     fn close(&mut self, file: u64)
@@ -39,7 +37,7 @@ pub trait Disk {
 
     // The bytes from an offset on, up to the end or the room given, whose rest is left alone.
     fn read(&mut self, file: u64, offset: FileOffset, into: &mut [u8]) -> Result<usize, LengthFault>
-        ensures answer { did self.old (ask_read file (place offset) (length into.old)) (read_out result into.new) self.new }
+        ensures answer { did self.old (ask_read file offset (length into.old)) (read_out result into.new) self.new }
         ensures spares { Spares result into.old into.new };
 
     // Lands some first bytes of those given, and says how many.
@@ -50,11 +48,11 @@ pub trait Disk {
         bytes: &[u8],
         path: Path,
     ) -> Result<usize, WriteFault>
-        ensures { did self.old (ask_write file (place offset) bytes.now path) result self.new };
+        ensures { did self.old (ask_write file offset bytes.now path) result self.new };
 
     // Cuts the file, or extends it with zeros, to end at an offset.
     fn resize(&mut self, file: u64, end: FileOffset) -> Result<(), ResizeFault>
-        ensures { did self.old (ask_resize file (place end)) result self.new };
+        ensures { did self.old (ask_resize file end) result self.new };
 
     // A mark of what has landed.
     fn barrier_start(&mut self, file: u64) -> u64
@@ -69,16 +67,16 @@ pub trait Disk {
         ensures { did self.old (ask_header file bytes.now) result self.new };
 
     fn flush_directory(&mut self, partition: &Partition) -> Result<(), WriteFault>
-        ensures { did self.old (ask_flush_directory (partition_of partition.now)) result self.new };
+        ensures { did self.old (ask_flush_directory partition.now) result self.new };
 
     fn flush_root(&mut self) -> Result<(), WriteFault>
         ensures { did self.old ask_flush_root result self.new };
 
     fn unbind(&mut self, key: &Key) -> Result<(), UnbindFault>
-        ensures { did self.old (ask_unbind (key_name key.now)) result self.new };
+        ensures { did self.old (ask_unbind key.now) result self.new };
 
     fn unbind_partition(&mut self, partition: &Partition) -> Result<(), UnbindFault>
-        ensures { did self.old (ask_unbind_partition (partition_of partition.now)) result self.new };
+        ensures { did self.old (ask_unbind_partition partition.now) result self.new };
 
     ghost valid: { (d : Self) → Valid (meaning d) };
 

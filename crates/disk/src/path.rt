@@ -14,9 +14,6 @@ impl Path {
     pub fn is_durable(self) -> bool
         ensures { result ≡ durable self }
     {
-        match self {
-            Path::Single => false,
-            Path::Vectored { durable, .. } => durable,
-        }
+        matches!(self, Path::Vectored { durable: true, .. })
     }
 }

@@ -3,10 +3,10 @@ use crate::{BlobOffset, Path};
 
 // The place in the file, or the number of the refusal.
 fn place(blob: u64, data: u64) -> Result<u64, u8> {
-    match BlobOffset::new(blob).in_file(data) {
-        Ok(offset) => Ok(offset.get()),
-        Err(fault) => Err(fault.number()),
-    }
+    BlobOffset::from(blob)
+        .in_file(data)
+        .map(u64::from)
+        .map_err(|fault| fault.number())
 }
 
 #[test]

@@ -2,9 +2,11 @@
 #![tactic(auto)]
 
 pub mod disk;
+pub mod kinds;
 pub mod store;
 
-pub use disk::{
-    DiskFault, FlushFault, LengthFault, OpenFault, ResizeFault, UnbindFault, WriteFault,
+pub use disk::DiskFault;
+pub use kinds::{
+    Failed, FlushFault, LengthFault, OpenFault, Refuses, ResizeFault, UnbindFault, WriteFault,
 };
 pub use store::{Failure, Fault};

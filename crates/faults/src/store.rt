@@ -1,9 +1,8 @@
 // Why a call was refused. Each case has its number in docs/RULES.md; one that follows from a disk's fault holds it whole.
 ghost use Rattle.std.specs.Prelude.{◌≡◌};
 ghost use Rattle.faults.specs.Numbers.{carried, number, refusal};
-ghost use Rattle.faults.specs.declared.store.Fault.TheVariants.{BlobOpenFailed, BlobResizeFailed, BlobSyncFailed, Io, ReadFailed};
 
-use crate::disk::{DiskFault, FlushFault, LengthFault, OpenFault, ResizeFault, WriteFault};
+use crate::disk::DiskFault;
 
 #[derive(Clone, Copy, PartialEq, Eq, Debug)]
 pub enum Fault {
@@ -98,46 +97,5 @@ impl From<Failure> for Fault {
             Failure::Write => Fault::WriteFailed,
             Failure::Sync(fault) => Fault::BlobSyncFailed(fault),
         }
-    }
-}
-
-impl From<OpenFault> for Fault {
-    ghost from_gives = { λ d f. f ≡ BlobOpenFailed d.0 };
-
-    fn from(fault: OpenFault) -> Fault {
-        Fault::BlobOpenFailed(fault.0)
-    }
-}
-
-impl From<WriteFault> for Fault {
-    ghost from_gives = { λ d f. f ≡ Io d.0 };
-
-    fn from(fault: WriteFault) -> Fault {
-        Fault::Io(fault.0)
-    }
-}
-
-impl From<FlushFault> for Fault {
-    ghost from_gives = { λ d f. f ≡ BlobSyncFailed d.0 };
-
-    fn from(fault: FlushFault) -> Fault {
-        Fault::BlobSyncFailed(fault.0)
-    }
-}
-
-impl From<ResizeFault> for Fault {
-    ghost from_gives = { λ d f. f ≡ BlobResizeFailed d.0 };
-
-    fn from(fault: ResizeFault) -> Fault {
-        Fault::BlobResizeFailed(fault.0)
-    }
-}
-
-// A length that cannot be read is refused without its code.
-impl From<LengthFault> for Fault {
-    ghost from_gives = { λ _ f. f ≡ ReadFailed };
-
-    fn from(_fault: LengthFault) -> Fault {
-        Fault::ReadFailed
     }
 }

@@ -4,26 +4,26 @@ use Rattle.std.proofs.Common.{sym, ap, ◌∙◌, inl, inr, arith}
 use Rattle.std.proofs.lemmas.Map.{update_here, update_apart}
 use Rattle.std.proofs.lemmas.Bool.{cases_lt, cases_eq, both_ways, cond_both}
 use Rattle.faults.specs.declared.disk.DiskFault.{DiskFault}
-use Rattle.faults.specs.declared.disk.OpenFault.{OpenFault}
-use Rattle.keys.specs.Keys.{KeyName, same_key}
-use Rattle.keys.proofs.Same.{same_key_decides}
+use Rattle.faults.specs.Kinds.{OpenFault, failed}
+use Rattle.keys.specs.KeyName.{KeyName, same_key}
+use Rattle.keys.specs.Laws.{same_key_decides}
 use Rattle.disk.specs.Files.{FileState, DiskState, Unbound, put, kept, with_holds, with_key, new_file}
 use Rattle.disk.specs.Rules.{unnamed, unnamed_by, NoneBound}
-use Rattle.slots.specs.declared.slot.FileSlot.{FileSlot}
+use Rattle.flat.specs.declared.files.place.Place.{Place}
 use Rattle.slots.specs.Told.{told_by}
 use Rattle.slots.specs.FileSteps.{held}
-use Rattle.slots.specs.Codes.{open_fault, no_room}
+use Rattle.slots.specs.Codes.{no_room}
 use Rattle.flat.specs.Places.{meaning_of, InOrder, key_in, bound_by, Distinct}
 use Rattle.flat.specs.Steps.{edited, close, open_old, open_new, open_by, first_bound, first_free, unbind}
 use Rattle.flat.specs.Firsts.{Finds, first_finds}
 use Rattle.flat.specs.RowsLemmas.{never, past, eight, key_kept}
-use Rattle.flat.specs.Lifts.{Keeps}
+use Rattle.flat.specs.Keeps.{Keeps}
 
 -- no file has a number past the last
 abbrev pub Small : DiskState → Type 0
 Small s = (f : ℕ) → 8 ≤ f → s f ≡ None
 
-pub small : (xs : List FileSlot) → InOrder xs → Small (meaning_of xs)
+pub small : (xs : List Place) → InOrder xs → Small (meaning_of xs)
 small xs o f h = let n = eight xs o in past xs f (omega arith)
 
 -- ---- where no key is told, none is bound
@@ -128,7 +128,7 @@ module _ (s : DiskState) (q : KeyName) (u : Unbound s q) (i : ℕ) (d : Distinct
 old_fewer : (s : DiskState) (f : ℕ) (o : Option FileState) → s f ≡ o → Fewer s (open_old s f o).1
 old_fewer s f None e = λ g q h. h
 old_fewer s f (Some x) e =
-    cond_both {A = Result ℕ OpenFault × DiskState} (nat_le 1099511627776 x.holds) (Err (open_fault no_room), s) (Ok f, put s f (Some (with_holds x (x.holds + 1)))) (λ r. Fewer s r.1) (λ t g q h. h) (λ t. fewer_put s f (Some (with_holds x (x.holds + 1))) (ap key_in (sym e)))
+    cond_both {A = Result ℕ OpenFault × DiskState} (nat_le 1099511627776 x.holds) (Err (failed no_room), s) (Ok f, put s f (Some (with_holds x (x.holds + 1)))) (λ r. Fewer s r.1) (λ t g q h. h) (λ t. fewer_put s f (Some (with_holds x (x.holds + 1))) (ap key_in (sym e)))
 
 new_open : (s : DiskState) (q : KeyName) → Unbound s q → Distinct s → (o : Option ℕ) → Distinct (open_new s q o).1
 new_open s q u d None = d

@@ -1,11 +1,17 @@
 -- The first number whose file passes a test. Assumes nothing.
-use Rattle.std.specs.Prelude.{◌≡◌, ℕ, zero, suc, ◌+◌, ◌<◌, ◌≤◌, Bool, true, false, cond, Some, None, Option}
+use Rattle.std.specs.Prelude.{◌≡◌, ℕ, zero, suc, ◌+◌, ◌<◌, ◌≤◌, Bool, true, false, cond, not, ◌||◌, List, length, get_or, is_some, Some, None, Option, MatchOption, nat_lt}
+use Rattle.std.specs.List.{AllWithin, HoldsAt}
 use Rattle.std.proofs.Math.Path.{refl, ap}
-use Rattle.std.proofs.Common.{◌∙◌, arith}
+use Rattle.std.proofs.Common.{sym, ◌∙◌, arith}
 use Rattle.std.proofs.Math.Logic.{inl, inr}
 use Rattle.std.proofs.lemmas.Bool.{cases_Bool, cases_eq}
-use Rattle.disk.specs.Files.{FileState, DiskState}
-use Rattle.flat.specs.Places.{first_from}
+use Rattle.keys.specs.KeyName.{KeyName}
+use Rattle.disk.specs.Files.{FileState, DiskState, kept}
+use Rattle.slots.specs.Told.{told_by}
+use Rattle.flat.specs.declared.files.place.Place.{Place}
+use Rattle.flat.specs.Places.{meaning_of, InOrder, first_from, bound_by, is_free}
+use Rattle.flat.specs.Steps.{first_bound, first_free}
+use Rattle.flat.specs.RowsLemmas.{here, eight, some_place, free_kept, key_kept}
 
 module _ (test : Option FileState → Bool) (s : DiskState) where
   -- as a search finds it
@@ -40,3 +46,24 @@ module _ (test : Option FileState → Bool) (s : DiskState) where
         | inl t ↦ rw t t
         | inr t ↦ rw t (finds_cons i m (first_from test s (suc i) m) t (first_finds (suc i) m))
       ]
+
+-- ---- the first place whose file passes a test
+
+-- `position` finds the number that the specification names, where its test is that of the files that are kept
+first_place : (test : Option FileState → Bool) (by : FileState → Bool) (xs : List Place) (r : Option ℕ) → ((x : FileState) → test (kept x) ≡ by x) → InOrder xs → MatchOption r (AllWithin (λ p. by p.file ≡ false) xs 0 (length xs)) (λ i. (i < length xs) × HoldsAt (λ p. by p.file ≡ true) xs i × AllWithin (λ p. by p.file ≡ false) xs 0 i) → r ≡ first_from test (meaning_of xs) 0 8
+first_place test by xs None e o w =
+    let n = eight xs o in
+    let d = some_place xs n in
+    sym (first_none test (meaning_of xs) 0 8 (λ k h. ap test (here xs k d (omega arith)) ∙ e (get_or xs k d).file ∙ w k d (omega arith) (omega arith)))
+first_place test by xs (Some i) e o w =
+    let n = eight xs o in
+    let d = some_place xs n in
+    let l : i < length xs = w.0 in
+    sym (first_some test (meaning_of xs) 0 8 i (omega arith) (omega arith) (ap test (here xs i d l) ∙ e (get_or xs i d).file ∙ w.1 d)
+    (λ k h. ap test (here xs k d (omega arith)) ∙ e (get_or xs k d).file ∙ w.2 k d (omega arith) h))
+
+pub first_free_place : (xs : List Place) (r : Option ℕ) → InOrder xs → MatchOption r (AllWithin (λ p. not (nat_lt 0 p.file.holds || is_some p.file.key) ≡ false) xs 0 (length xs)) (λ i. (i < length xs) × HoldsAt (λ p. not (nat_lt 0 p.file.holds || is_some p.file.key) ≡ true) xs i × AllWithin (λ p. not (nat_lt 0 p.file.holds || is_some p.file.key) ≡ false) xs 0 i) → r ≡ first_free (meaning_of xs)
+first_free_place xs r o w = first_place is_free (λ x. not (nat_lt 0 x.holds || is_some x.key)) xs r free_kept o w
+
+pub first_bound_place : (tells : KeyName → Bool) (xs : List Place) (r : Option ℕ) → InOrder xs → MatchOption r (AllWithin (λ p. told_by tells p.file.key ≡ false) xs 0 (length xs)) (λ i. (i < length xs) × HoldsAt (λ p. told_by tells p.file.key ≡ true) xs i × AllWithin (λ p. told_by tells p.file.key ≡ false) xs 0 i) → r ≡ first_bound tells (meaning_of xs)
+first_bound_place tells xs r o w = first_place (bound_by tells) (λ x. told_by tells x.key) xs r (λ x. ap (told_by tells) (key_kept x)) o w

@@ -4,23 +4,22 @@ use Rattle.std.proofs.Common.{sym, ap, ◌∙◌}
 use Rattle.std.proofs.Math.Path.{fun_ext}
 use Rattle.std.specs.List.{slice_get}
 use Rattle.std.specs.Option.{option_map}
-use Rattle.std.proofs.lemmas.List.{get_or-map, map-set, take_all, drop_all, append-nil}
+use Rattle.std.proofs.lemmas.List.{append-nil, drop_all, get_or-map, map-set, take_all}
 use Rattle.std.proofs.lemmas.List.Edits.{map_over_more}
-use Rattle.keys.specs.Keys.{KeyName}
+use Rattle.keys.specs.KeyName.{KeyName}
 use Rattle.disk.specs.Files.{FileState, kept, with_key}
 use Rattle.disk.specs.Rules.{unnamed, unbound}
-use Rattle.slots.specs.declared.slot.FileSlot.{FileSlot}
-use Rattle.slots.specs.Slots.{state}
 use Rattle.slots.specs.Told.{forgot}
-use Rattle.flat.specs.Places.{live, files_of, meaning_of}
+use Rattle.flat.specs.declared.files.place.Place.{Place}
+use Rattle.flat.specs.Places.{live, files_of, file_of, meaning_of}
 use Rattle.flat.specs.RowsLemmas.{kept_bound}
 
 -- ---- the loop
 
-pub forget_more : (going : KeyName → Bool) (vs : List FileState) (cur : List FileSlot) (i : ℕ) (s y : FileSlot) → map state cur ≡ map (forgot going) (take i vs) ++ drop i vs → i < length vs → i < length cur → s ≡ slice_index_or cur i s → state y ≡ forgot going (state s) → map state (slice_set cur i y) ≡ map (forgot going) (take (i + 1) vs) ++ drop (i + 1) vs
+pub forget_more : (going : KeyName → Bool) (vs : List FileState) (cur : List Place) (i : ℕ) (s y : Place) → map file_of cur ≡ map (forgot going) (take i vs) ++ drop i vs → i < length vs → i < length cur → s ≡ slice_index_or cur i s → y.file ≡ forgot going s.file → map file_of (slice_set cur i y) ≡ map (forgot going) (take (i + 1) vs) ++ drop (i + 1) vs
 forget_more going vs cur i s y inv h l is e =
-    let seen : state s ≡ get_or (map state cur) i (state s) = ap state is ∙ sym (get_or-map state cur i s (state s) l) in
-    map-set state cur i y ∙ ap (set (map state cur) i) e ∙ map_over_more (forgot going) vs (map state cur) i (state s) h inv seen
+    let seen : s.file ≡ get_or (map file_of cur) i s.file = ap file_of is ∙ sym (get_or-map file_of cur i s s.file l) in
+    map-set file_of cur i y ∙ ap (set (map file_of cur) i) e ∙ map_over_more (forgot going) vs (map file_of cur) i s.file h inv seen
 
 pub forget_all : (going : KeyName → Bool) (vs : List FileState) (i : ℕ) → length vs ≤ i → map (forgot going) (take i vs) ++ drop i vs ≡ map (forgot going) vs
 forget_all going vs i h = ap (λ l. map (forgot going) (take i vs) ++ l) (drop_all i vs h) ∙ append-nil _ ∙ ap (map (forgot going)) (take_all i vs h)
@@ -45,6 +44,6 @@ forgot_live : (going : KeyName → Bool) (o : Option FileState) → live (option
 forgot_live going None = refl
 forgot_live going (Some x) = forgot_by going x.key x.bytes x.n x.k x.holds
 
-pub forgot_all : (going : KeyName → Bool) (xs ys : List FileSlot) → map state ys ≡ map (forgot going) (map state xs) → meaning_of ys ≡ unbound going (meaning_of xs)
+pub forgot_all : (going : KeyName → Bool) (xs ys : List Place) → map file_of ys ≡ map (forgot going) (map file_of xs) → meaning_of ys ≡ unbound going (meaning_of xs)
 unfolding files_of
-forgot_all going xs ys e = ap files_of e ∙ fun_ext (λ f. ap live (nth_map (forgot going) (map state xs) f) ∙ forgot_live going (slice_get (map state xs) f))
+forgot_all going xs ys e = ap files_of e ∙ fun_ext (λ f. ap live (nth_map (forgot going) (map file_of xs) f) ∙ forgot_live going (slice_get (map file_of xs) f))

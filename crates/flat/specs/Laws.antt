@@ -3,32 +3,28 @@ use Rattle.std.specs.Prelude.{◌≡◌, ℕ, ◌+◌, ◌<◌, ◌≤◌, min, 
 use Rattle.std.proofs.Common.{sym, ap, subst, ◌∙◌, inl, inr, add-zero, arith}
 use Rattle.std.proofs.Math.Path.{fun_ext}
 use Rattle.std.specs.List.{slice_get}
-use Rattle.std.specs.Option.{option_map}
 use Rattle.std.proofs.lemmas.Bool.{lt-ltb, ltb-true, or_cases, and_parts, not-true, eqb-false, cond_both}
 use Rattle.faults.specs.Numbers.{code}
 use Rattle.faults.specs.declared.disk.DiskFault.{DiskFault}
 use Rattle.faults.specs.declared.disk.DiskFault.TheVariants.{Code}
-use Rattle.faults.specs.declared.disk.OpenFault.{OpenFault}
-use Rattle.faults.specs.declared.disk.WriteFault.{WriteFault}
-use Rattle.faults.specs.declared.disk.ResizeFault.{ResizeFault}
-use Rattle.keys.specs.Keys.{KeyName, same_key}
-use Rattle.keys.proofs.Same.{same_key_decides}
+use Rattle.faults.specs.declared.kinds.Write.{Write}
+use Rattle.faults.specs.Kinds.{OpenFault, WriteFault, ResizeFault, failed}
+use Rattle.keys.specs.KeyName.{KeyName, same_key, in_partition}
+use Rattle.keys.specs.Laws.{same_key_decides}
 use Rattle.disk.specs.declared.path.Path.{Path}
 use Rattle.disk.specs.Paths.{durable}
 use Rattle.disk.specs.Files.{FileState, DiskState, Held, Unbound, Valid, put, with_holds}
 use Rattle.disk.specs.Requests.{Request, ask_open, ask_close, ask_length, ask_read, ask_write, ask_resize, ask_start, ask_end, ask_header, ask_flush_directory, ask_flush_root, ask_unbind, ask_unbind_partition}
-use Rattle.disk.specs.Rules.{DiskRules, OpenRule, LengthRule, ReadRule, WriteRule, ResizeRule, EndRule, HeaderRule, FlushRule, UnbindRule, UnbindPartitionRule, SomeBound, Fails, Interrupted, spoiled, unnamed, unnamed_by, unbound, in_partition}
-use Rattle.slots.specs.declared.slot.FileSlot.{FileSlot}
-use Rattle.slots.specs.Slots.{state}
+use Rattle.disk.specs.Rules.{DiskRules, OpenRule, LengthRule, ReadRule, WriteRule, ResizeRule, EndRule, HeaderRule, FlushRule, UnbindRule, UnbindPartitionRule, SomeBound, Fails, Interrupted, spoiled, unnamed, unnamed_by, unbound}
 use Rattle.slots.specs.Plans.{is_code, planned_if, planned, planned_unbind, landing}
-use Rattle.slots.specs.Codes.{open_fault, write_fault, flush_fault, resize_fault, length_fault, unbind_fault, no_room}
+use Rattle.slots.specs.Codes.{no_room}
 use Rattle.slots.specs.FileSteps.{held, full, fits, write_refused, write_answer, after_write, resize_answer, after_resize, header_answer, after_header, end_answer, after_end}
-use Rattle.flat.specs.Places.{live, files_of, meaning_of, key_in, bound_by, is_free, Distinct}
+use Rattle.flat.specs.declared.files.place.Place.{Place}
+use Rattle.flat.specs.Places.{live, files_of, file_of, meaning_of, key_in, bound_by, is_free, Sound}
 use Rattle.flat.specs.Steps.{unless, asked, edited, close, mark_of, write, open_held, open_old, open_new, open_by, first_bound, first_free, unbind, does}
 use Rattle.flat.specs.RowsLemmas.{never, kept_is}
 use Rattle.flat.specs.Firsts.{Finds, first_finds}
 use Rattle.flat.specs.Lifts.{put_same, bound_some}
-use Rattle.flat.specs.Forgets.{nth_map}
 use Rattle.flat.specs.Distinct.{Small, none_bound, unbound_key}
 
 -- ---- planned faults
@@ -72,7 +68,7 @@ module _ (s : DiskState) (f : ℕ) (x : FileState) (h : Held s f x) where
   edits fault answer after P p =
       subst (λ o. P (edited fault s f o answer after).0 (edited fault s f o answer after).1) (sym is) (p (answer x) refl)
 
-  count_within : (b : Bool) (c m k : ℕ) → Ok c ≡ cond b (Err (write_fault no_room)) (Ok k) → k ≤ m → c ≤ m
+  count_within : (b : Bool) (c m k : ℕ) → Ok c ≡ cond b (Err (failed {K = Write} no_room)) (Ok k) → k ≤ m → c ≤ m
   count_within true c m k e l = let z : ◌≡◌ {A = ℕ} 0 1 = cc in absurd (omega arith)
   count_within false c m k e l = let z : c ≡ k = cc in omega arith
 
@@ -84,18 +80,18 @@ module _ (s : DiskState) (f : ℕ) (x : FileState) (h : Held s f x) where
   write_keeps : (at : ℕ) (given : List ℕ) (p : Path) (l : Result ℕ DiskFault) → WriteRule s f x at given p (write l s f at given p).0 (write l s f at given p).1
   write_keeps at given p (Err d) = inl refl
   write_keeps at given p (Ok limit) =
-      edits write_fault (write_answer at (length given) (durable p) limit) (after_write at given (durable p)) (WriteRule s f x at given p) (write_rule at given p limit)
+      edits failed (write_answer at (length given) (durable p) limit) (after_write at given (durable p)) (WriteRule s f x at given p) (write_rule at given p limit)
 
-  resize_code : (b : Bool) (y : ResizeFault) → ◌≡◌ {A = Result (Unit {0}) ResizeFault} (Err y) (cond b (Err (resize_fault no_room)) (Ok tt)) → Interrupted y.0 → ⊥
-  resize_code true y e i = let g : y ≡ resize_fault no_room = cc in let z : code y.0 ≡ 28 = ap (λ v. code v.0) g in omega arith
+  resize_code : (b : Bool) (y : ResizeFault) → ◌≡◌ {A = Result (Unit {0}) ResizeFault} (Err y) (cond b (Err (failed no_room)) (Ok tt)) → Interrupted y.0 → ⊥
+  resize_code true y e i = let g : y ≡ failed no_room = cc in let z : code y.0 ≡ 28 = ap (λ v. code v.0) g in omega arith
   resize_code false y e i = let z : ◌≡◌ {A = ℕ} 0 1 = cc in omega arith
 
   resize_rule : (end : ℕ) (r : Result (Unit {0}) ResizeFault) → r ≡ resize_answer end x → ResizeRule s f x end r (put s f (Some (after_resize end x r)))
   resize_rule end (Ok u) e = refl
   resize_rule end (Err y) e = (resize_code (nat_lt 4096 end || full x) y e, put_same s f x h.0)
 
-  header_code : (b : Bool) (y : WriteFault) → ◌≡◌ {A = Result (Unit {0}) WriteFault} (Err y) (cond b (Err (write_fault no_room)) (Ok tt)) → Interrupted y.0 → ⊥
-  header_code true y e i = let g : y ≡ write_fault no_room = cc in let z : code y.0 ≡ 28 = ap (λ v. code v.0) g in omega arith
+  header_code : (b : Bool) (y : WriteFault) → ◌≡◌ {A = Result (Unit {0}) WriteFault} (Err y) (cond b (Err (failed no_room)) (Ok tt)) → Interrupted y.0 → ⊥
+  header_code true y e i = let g : y ≡ failed no_room = cc in let z : code y.0 ≡ 28 = ap (λ v. code v.0) g in omega arith
   header_code false y e i = let z : ◌≡◌ {A = ℕ} 0 1 = cc in omega arith
 
   -- a header that leaves the file
@@ -117,7 +113,7 @@ module _ (s : DiskState) (f : ℕ) (x : FileState) (h : Held s f x) where
 
 open_some : (s : DiskState) (q : KeyName) (f : ℕ) (x : FileState) → s f ≡ Some x → x.key ≡ Some q → OpenRule s q (open_held s f x).0 (open_held s f x).1
 open_some s q f x e k =
-    cond_both {A = Result ℕ OpenFault × DiskState} (nat_le 1099511627776 x.holds) (Err (open_fault no_room), s) (Ok f, put s f (Some (with_holds x (x.holds + 1)))) (λ r. OpenRule s q r.0 r.1)
+    cond_both {A = Result ℕ OpenFault × DiskState} (nat_le 1099511627776 x.holds) (Err (failed no_room), s) (Ok f, put s f (Some (with_holds x (x.holds + 1)))) (λ r. OpenRule s q r.0 r.1)
     (λ t. (λ i. omega arith, inl refl)) (λ t. inl (x, e, k, refl))
 
 free_none : (o : Option FileState) → is_free o ≡ true → o ≡ None
@@ -165,41 +161,33 @@ partition_rule s p m (Some f) b = (some_bound s (in_partition p) f b, refl)
 
 pub rules : (s : DiskState) → Small s → (p : ℕ) (q : Request) → DiskRules s q (does q p s).0 (does q p s).1
 rules s m p (ask_open q) =
-    by_plan open_fault s (open_by s q (first_bound (same_key q) s)) (OpenRule s q) (planned p) (λ d e. (not_interrupted p d e, inl refl))
+    by_plan failed s (open_by s q (first_bound (same_key q) s)) (OpenRule s q) (planned p) (λ d e. (not_interrupted p d e, inl refl))
     (open_rule s q m (first_bound (same_key q) s) (first_finds (bound_by (same_key q)) s 0 8))
 rules s m p (ask_close f) = λ x h. ap (close s f) (is s f x h)
 rules s m p (ask_length f) = λ x h.
-    by_plan length_fault s _ (LengthRule s x) (planned p) (λ d e. fails s p d e) (asks s f x h length_fault (λ y. length y.bytes) (λ r. LengthRule s x r s) (refl, refl))
+    by_plan failed s _ (LengthRule s x) (planned p) (λ d e. fails s p d e) (asks s f x h failed (λ y. length y.bytes) (λ r. LengthRule s x r s) (refl, refl))
 rules s m p (ask_read f at room) = λ x h.
-    by_plan length_fault s _ (ReadRule s x at room) (planned p) (λ d e. fails s p d e)
-    (asks s f x h length_fault (λ y. take room (drop at y.bytes)) (λ r. ReadRule s x at room r s) (refl, refl))
+    by_plan failed s _ (ReadRule s x at room) (planned p) (λ d e. fails s p d e)
+    (asks s f x h failed (λ y. take room (drop at y.bytes)) (λ r. ReadRule s x at room r s) (refl, refl))
 rules s m p (ask_write f at given path) = λ x h. write_keeps s f x h at given path (landing p (length given))
 rules s m p (ask_resize f end) = λ x h.
-    by_plan resize_fault s _ (ResizeRule s f x end) (planned p) (λ d e. fails s p d e) (edits s f x h resize_fault (resize_answer end) (after_resize end) (ResizeRule s f x end) (resize_rule s f x h end))
+    by_plan failed s _ (ResizeRule s f x end) (planned p) (λ d e. fails s p d e) (edits s f x h failed (resize_answer end) (after_resize end) (ResizeRule s f x end) (resize_rule s f x h end))
 rules s m p (ask_start f) = λ x h. (ap mark_of (is s f x h), refl)
 rules s m p (ask_end f mark) = λ x h.
-    by_plan flush_fault s _ (EndRule s f x mark) (planned p) (λ d e. fails s p d e) (edits s f x h flush_fault end_answer (after_end mark) (EndRule s f x mark) (end_rule s f x h mark))
+    by_plan failed s _ (EndRule s f x mark) (planned p) (λ d e. fails s p d e) (edits s f x h failed end_answer (after_end mark) (EndRule s f x mark) (end_rule s f x h mark))
 rules s m p (ask_header f given) = λ x h.
-    by_plan write_fault s _ (HeaderRule s f x given) (planned p) (λ d e. (not_interrupted p d e, (x.bytes, 0, omega arith, header_left s f x h)))
-    (edits s f x h write_fault (header_answer (length given)) (after_header given) (HeaderRule s f x given) (header_rule s f x h given))
-rules s m p (ask_flush_directory d) = by_plan write_fault s (Ok tt, s) (FlushRule s) (planned p) (λ d e. fails s p d e) refl
-rules s m p ask_flush_root = by_plan write_fault s (Ok tt, s) (FlushRule s) (planned p) (λ d e. fails s p d e) refl
+    by_plan failed s _ (HeaderRule s f x given) (planned p) (λ d e. (not_interrupted p d e, (x.bytes, 0, omega arith, header_left s f x h)))
+    (edits s f x h failed (header_answer (length given)) (after_header given) (HeaderRule s f x given) (header_rule s f x h given))
+rules s m p (ask_flush_directory d) = by_plan failed s (Ok tt, s) (FlushRule s) (planned p) (λ d e. fails s p d e) refl
+rules s m p ask_flush_root = by_plan failed s (Ok tt, s) (FlushRule s) (planned p) (λ d e. fails s p d e) refl
 rules s m p (ask_unbind q) =
-    by_plan unbind_fault s (unbind (same_key q) s (first_bound (same_key q) s)) (UnbindRule s q) (planned_unbind p)
+    by_plan failed s (unbind (same_key q) s (first_bound (same_key q) s)) (UnbindRule s q) (planned_unbind p)
     (λ d e. let c = unbind_code p d e in (λ i. absurd (c.0 i), (c.1, refl))) (unbind_rule s q m (first_bound (same_key q) s) (first_finds (bound_by (same_key q)) s 0 8))
 rules s m p (ask_unbind_partition d) =
-    by_plan unbind_fault s (unbind (in_partition d) s (first_bound (in_partition d) s)) (UnbindPartitionRule s d) (planned_unbind p)
+    by_plan failed s (unbind (in_partition d) s (first_bound (in_partition d) s)) (UnbindPartitionRule s d) (planned_unbind p)
     (λ y e. let c = unbind_code p y e in (λ i. absurd (c.0 i), c.1, leaves s d)) (partition_rule s d m (first_bound (in_partition d) s) (first_finds (bound_by (in_partition d)) s 0 8))
 
--- ---- every flat disk stands for a valid one
-
-live_covered : (o : Option FileSlot) (x : FileState) → live (option_map state o) ≡ Some x → x.k ≤ x.n
-live_covered None x e = absurd (never x e)
-live_covered (Some s) x e =
-    let a = (kept_is x (state s) _ e).0 in
-    let k : x.k ≡ s.k = ap (λ y. y.k) a in
-    let n : x.n ≡ s.n = ap (λ y. y.n) a in
-    omega (arith, s.covered)
+-- ---- sound files are a valid disk
 
 live_there : (o : Option FileState) (x : FileState) → live o ≡ Some x → (0 < x.holds) ⊎ (is_some x.key ≡ true)
 live_there None x e = absurd (never x e)
@@ -210,10 +198,10 @@ live_there (Some y) x e =
       | inr t ↦ inr (ap (λ v. is_some v.key) a.0 ∙ t)
     ]
 
-pub valid : (xs : List FileSlot) → Distinct (meaning_of xs) → Valid (meaning_of xs)
+pub valid : (xs : List Place) → Sound (meaning_of xs) → Valid (meaning_of xs)
 unfolding files_of
-valid xs d = record {
-  once = λ q f g a b. d f g (q, ap key_in a.1 ∙ a.2, ap key_in b.1 ∙ b.2);
-  covered = λ f x e. live_covered (slice_get xs f) x (ap live (sym (nth_map state xs f)) ∙ e);
-  there = λ f x e. live_there (slice_get (map state xs) f) x e;
+valid xs s = record {
+  once = λ q f g a b. s.distinct f g (q, ap key_in a.1 ∙ a.2, ap key_in b.1 ∙ b.2);
+  covered = s.covered;
+  there = λ f x e. live_there (slice_get (map file_of xs) f) x e;
 }

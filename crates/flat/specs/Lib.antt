@@ -8,4 +8,6 @@ pub mod RowsLemmas
 pub mod Firsts
 pub mod Lifts
 pub mod Forgets
+pub mod Keeps
 pub mod Distinct
+pub mod Sounds

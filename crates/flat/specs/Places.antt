@@ -1,11 +1,10 @@
 -- The files of the eight places as a disk's meaning. Assumes nothing.
-use Rattle.std.specs.Prelude.{◌≡◌, ℕ, zero, suc, Bool, true, false, cond, List, map, Some, None, Option}
+use Rattle.std.specs.Prelude.{◌≡◌, ℕ, zero, suc, Bool, true, false, cond, List, map, Some, None, Option, ◌≤◌}
 use Rattle.std.specs.List.{slice_get, range_with_len}
-use Rattle.keys.specs.Keys.{KeyName}
+use Rattle.keys.specs.KeyName.{KeyName}
 use Rattle.disk.specs.Files.{FileState, DiskState, kept}
-use Rattle.slots.specs.declared.slot.FileSlot.{FileSlot}
-use Rattle.slots.specs.Slots.{state, number_of}
 use Rattle.slots.specs.Told.{told_by}
+use Rattle.flat.specs.declared.files.place.Place.{Place}
 
 -- a place past the last has no file, nor has one whose file is neither held nor bound
 abbrev pub live : Option FileState → Option FileState
@@ -16,16 +15,23 @@ live (Some x) = kept x
 unfoldable pub files_of : List FileState → DiskState
 files_of vs = λ f. live (slice_get vs f)
 
--- the files of a row of slots
-abbrev pub meaning_of : List FileSlot → DiskState
-meaning_of xs = files_of (map state xs)
+-- the file in a place
+abbrev pub file_of : Place → FileState
+file_of p = p.file
 
--- the numbers that the slots are looked up by
-abbrev pub numbers : List FileSlot → List ℕ
+-- the files of a row of places
+abbrev pub meaning_of : List Place → DiskState
+meaning_of xs = files_of (map file_of xs)
+
+-- the number that a place is looked up by
+abbrev pub number_of : Place → ℕ
+number_of p = p.number
+
+abbrev pub numbers : List Place → List ℕ
 numbers xs = map number_of xs
 
 -- each place has the number of its index, so there are eight
-abbrev pub InOrder : List FileSlot → Type 0
+abbrev pub InOrder : List Place → Type 0
 InOrder xs = numbers xs ≡ range_with_len 0 8
 
 -- the key of a file, if it is there and has one
@@ -40,6 +46,15 @@ Shared o p = (q : KeyName) × (o ≡ Some q) × (p ≡ Some q)
 -- no two files have one key
 abbrev pub Distinct : DiskState → Type 0
 Distinct s = (f g : ℕ) → Shared (key_in (s f)) (key_in (s g)) → f ≡ g
+
+-- no file has more mutations covered than have landed
+abbrev pub Covered : DiskState → Type 0
+Covered s = (f : ℕ) (x : FileState) → s f ≡ Some x → x.k ≤ x.n
+
+-- what holds of the files at all times
+pub record Sound (s : DiskState) : Type 0 where
+  pub distinct : Distinct s
+  pub covered : Covered s
 
 -- the first number from i on, of m numbers, whose file passes a test
 unfoldable pub first_from : (Option FileState → Bool) → DiskState → ℕ → ℕ → Option ℕ

@@ -1,8 +1,8 @@
--- The files as a row of slots. Assumes nothing.
+-- The files as a row of places. Assumes nothing.
 use Rattle.std.specs.Prelude.{List}
-use Rattle.slots.specs.declared.slot.FileSlot.{FileSlot}
+use Rattle.flat.specs.declared.files.place.Place.{Place}
 use Rattle.flat.specs.declared.files.Files.{Files}
 
--- the slots, in order
-abbrev pub slots : Files → List FileSlot
+-- the places, in order
+abbrev pub slots : Files → List Place
 slots f = f.slots

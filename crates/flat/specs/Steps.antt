@@ -1,17 +1,15 @@
 -- What the flat disk answers to each request, and which files it has then. Assumes nothing.
 use Rattle.std.specs.Prelude.{ℕ, ◌+◌, ◌-◌, Bool, cond, List, length, take, drop, Some, None, Ok, Err, Option, Result, nat_le}
 use Rattle.faults.specs.declared.disk.DiskFault.{DiskFault}
-use Rattle.faults.specs.declared.disk.OpenFault.{OpenFault}
-use Rattle.faults.specs.declared.disk.WriteFault.{WriteFault}
-use Rattle.faults.specs.declared.disk.UnbindFault.{UnbindFault}
-use Rattle.keys.specs.Keys.{KeyName, same_key}
+use Rattle.faults.specs.Kinds.{OpenFault, WriteFault, UnbindFault, failed}
+use Rattle.keys.specs.KeyName.{KeyName, same_key, in_partition}
 use Rattle.disk.specs.declared.path.Path.{Path}
 use Rattle.disk.specs.Paths.{durable}
 use Rattle.disk.specs.Files.{FileState, DiskState, put, with_holds, new_file, kept}
-use Rattle.disk.specs.Rules.{unbound, in_partition}
+use Rattle.disk.specs.Rules.{unbound}
 use Rattle.disk.specs.Requests.{Request, Answer, ask_open, ask_close, ask_length, ask_read, ask_write, ask_resize, ask_start, ask_end, ask_header, ask_flush_directory, ask_flush_root, ask_unbind, ask_unbind_partition}
 use Rattle.slots.specs.Plans.{first, planned, planned_unbind, landing}
-use Rattle.slots.specs.Codes.{open_fault, write_fault, flush_fault, resize_fault, length_fault, unbind_fault, no_room, not_held, not_bound}
+use Rattle.slots.specs.Codes.{no_room, not_held, not_bound}
 use Rattle.slots.specs.FileSteps.{held, write_answer, after_write, resize_answer, after_resize, header_answer, after_header, end_answer, after_end}
 use Rattle.flat.specs.Places.{first_from, bound_by, is_free}
 
@@ -44,8 +42,8 @@ mark_of (Some x) = x.n
 
 -- a write under its entry: a planned fault, or a limit
 abbrev pub write : Result ℕ DiskFault → DiskState → ℕ → ℕ → List ℕ → Path → Result ℕ WriteFault × DiskState
-write (Err d) s f at given p = (Err (write_fault d), s)
-write (Ok limit) s f at given p = edited write_fault s f (held (s f)) (write_answer at (length given) (durable p) limit) (after_write at given (durable p))
+write (Err d) s f at given p = (Err (failed d), s)
+write (Ok limit) s f at given p = edited failed s f (held (s f)) (write_answer at (length given) (durable p) limit) (after_write at given (durable p))
 
 -- ---- requests by key
 
@@ -59,16 +57,16 @@ first_free s = first_from is_free s 0 8
 
 -- a new empty file, if there is a number for it
 abbrev pub open_new : DiskState → KeyName → Option ℕ → Result ℕ OpenFault × DiskState
-open_new s q None = (Err (open_fault no_room), s)
+open_new s q None = (Err (failed no_room), s)
 open_new s q (Some f) = (Ok f, put s f (Some (new_file q 1)))
 
 -- one hold more, up to 2^40
 abbrev pub open_held : DiskState → ℕ → FileState → Result ℕ OpenFault × DiskState
-open_held s f x = cond (nat_le 1099511627776 x.holds) (Err (open_fault no_room), s) (Ok f, put s f (Some (with_holds x (x.holds + 1))))
+open_held s f x = cond (nat_le 1099511627776 x.holds) (Err (failed no_room), s) (Ok f, put s f (Some (with_holds x (x.holds + 1))))
 
 -- a bound number has a file, so that the first line never answers
 abbrev pub open_old : DiskState → ℕ → Option FileState → Result ℕ OpenFault × DiskState
-open_old s f None = (Err (open_fault not_bound), s)
+open_old s f None = (Err (failed not_bound), s)
 open_old s f (Some x) = open_held s f x
 
 -- the file of a bound key, or a new one
@@ -78,26 +76,26 @@ open_by s q (Some f) = open_old s f (s f)
 
 -- code 2 where no key that is told is bound; else all of them go
 abbrev pub unbind : (KeyName → Bool) → DiskState → Option ℕ → Result (Unit {0}) UnbindFault × DiskState
-unbind going s None = (Err (unbind_fault not_bound), s)
+unbind going s None = (Err (failed not_bound), s)
 unbind going s (Some f) = (Ok tt, unbound going s)
 
 -- ---- all requests
 
 -- the answer to a request under the entry p, and the files after it
 abbrev pub does : (q : Request) → ℕ → DiskState → Answer q × DiskState
-does (ask_open q) p s = unless (planned p) open_fault s (open_by s q (first_bound (same_key q) s))
+does (ask_open q) p s = unless (planned p) failed s (open_by s q (first_bound (same_key q) s))
 does (ask_close f) p s = (tt, close s f (held (s f)))
-does (ask_length f) p s = unless (planned p) length_fault s (asked length_fault (held (s f)) (λ x. length x.bytes), s)
-does (ask_read f at room) p s = unless (planned p) length_fault s (asked length_fault (held (s f)) (λ x. take room (drop at x.bytes)), s)
+does (ask_length f) p s = unless (planned p) failed s (asked failed (held (s f)) (λ x. length x.bytes), s)
+does (ask_read f at room) p s = unless (planned p) failed s (asked failed (held (s f)) (λ x. take room (drop at x.bytes)), s)
 does (ask_write f at given path) p s = write (landing p (length given)) s f at given path
-does (ask_resize f end) p s = unless (planned p) resize_fault s (edited resize_fault s f (held (s f)) (resize_answer end) (after_resize end))
+does (ask_resize f end) p s = unless (planned p) failed s (edited failed s f (held (s f)) (resize_answer end) (after_resize end))
 does (ask_start f) p s = (mark_of (held (s f)), s)
-does (ask_end f mark) p s = unless (planned p) flush_fault s (edited flush_fault s f (held (s f)) end_answer (after_end mark))
-does (ask_header f given) p s = unless (planned p) write_fault s (edited write_fault s f (held (s f)) (header_answer (length given)) (after_header given))
-does (ask_flush_directory d) p s = unless (planned p) write_fault s (Ok tt, s)
-does ask_flush_root p s = unless (planned p) write_fault s (Ok tt, s)
-does (ask_unbind q) p s = unless (planned_unbind p) unbind_fault s (unbind (same_key q) s (first_bound (same_key q) s))
-does (ask_unbind_partition d) p s = unless (planned_unbind p) unbind_fault s (unbind (in_partition d) s (first_bound (in_partition d) s))
+does (ask_end f mark) p s = unless (planned p) failed s (edited failed s f (held (s f)) end_answer (after_end mark))
+does (ask_header f given) p s = unless (planned p) failed s (edited failed s f (held (s f)) (header_answer (length given)) (after_header given))
+does (ask_flush_directory d) p s = unless (planned p) failed s (Ok tt, s)
+does ask_flush_root p s = unless (planned p) failed s (Ok tt, s)
+does (ask_unbind q) p s = unless (planned_unbind p) failed s (unbind (same_key q) s (first_bound (same_key q) s))
+does (ask_unbind_partition d) p s = unless (planned_unbind p) failed s (unbind (in_partition d) s (first_bound (in_partition d) s))
 
 -- a flat disk: its files, and what is left of its plan
 pub record Flat : Type 0 where

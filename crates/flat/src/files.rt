@@ -1,13 +1,17 @@
-// The eight files. This struct has no ghost field, so that one of its slots can be lent.
-use slots::FileSlot;
+// The eight files, each in the place of its number.
+ghost use Rattle.flat.specs.Places.{InOrder};
+
+use place::Place;
 
 // Few, so that a disk without a free number is met soon.
 const FILES: usize = 8;
 
 #[derive(Drop)]
 pub(crate) struct Files {
-    slots: [FileSlot; FILES],
+    slots: [Place; FILES],
+    ghost order: { InOrder slots },
 }
 
 pub mod lookups;
+pub mod place;
 pub mod requests;

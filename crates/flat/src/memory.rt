@@ -1,5 +1,5 @@
-// The flat disk: its files, no two of one key, and its plan.
-ghost use Rattle.flat.specs.Places.{meaning_of, InOrder, Distinct};
+// The flat disk: its files and its plan.
+ghost use Rattle.flat.specs.Places.{meaning_of, Sound};
 ghost use Rattle.flat.specs.Rows.{slots};
 
 use crate::files::Files;
@@ -9,8 +9,7 @@ use slots::Plan;
 pub struct FlatDisk {
     files: Files,
     plan: Plan,
-    ghost distinct: { Distinct (meaning_of (slots files)) },
-    ghost order: { InOrder (slots files) },
+    ghost sound: { Sound (meaning_of (slots files)) },
 }
 
 pub mod requests;

@@ -1,9 +1,14 @@
-// What the flat disk answers where a rule begins or ends to hold. A code of 0 stands for no fault.
+// What the flat disk answers where a rule begins or ends to hold.
 use disk::{BlobOffset, Disk, FileOffset, Path};
-use faults::{Fault, LengthFault, OpenFault, ResizeFault, UnbindFault, WriteFault};
+use faults::{DiskFault, Fault, LengthFault, OpenFault, ResizeFault, UnbindFault, WriteFault};
 use flat::FlatDisk;
 use keys::Key;
 use std::test::Fail;
+
+// No room in a file, or no number for one.
+const NO_ROOM: DiskFault = DiskFault::Code(28);
+
+const NOT_HELD: DiskFault = DiskFault::Code(9);
 
 static BYTES: [u8; 4097] = [7; 4097];
 
@@ -17,42 +22,7 @@ fn key(name: &[u8]) -> Result<Key, Fault> {
 }
 
 fn at(place: u64) -> Result<FileOffset, Fault> {
-    BlobOffset::new(place).in_file(0)
-}
-
-fn open_code(answer: Result<u64, OpenFault>) -> u16 {
-    match answer {
-        Ok(_) => 0,
-        Err(fault) => fault.0.code(),
-    }
-}
-
-fn write_code<T: Drop>(answer: Result<T, WriteFault>) -> u16 {
-    match answer {
-        Ok(_) => 0,
-        Err(fault) => fault.0.code(),
-    }
-}
-
-fn resize_code(answer: Result<(), ResizeFault>) -> u16 {
-    match answer {
-        Ok(()) => 0,
-        Err(fault) => fault.0.code(),
-    }
-}
-
-fn length_code(answer: Result<u64, LengthFault>) -> u16 {
-    match answer {
-        Ok(_) => 0,
-        Err(fault) => fault.0.code(),
-    }
-}
-
-fn unbind_code(answer: Result<(), UnbindFault>) -> u16 {
-    match answer {
-        Ok(()) => 0,
-        Err(fault) => fault.0.code(),
-    }
+    BlobOffset::from(place).in_file(0)
 }
 
 #[test]
@@ -73,8 +43,8 @@ fn a_write_ends_at_4096(rt: HostRuntime) -> Result<(), Fail> {
         );
     }
     assert_eq!(rt;
-        write_code(disk.write(file, at(4096)?, part(1), Path::Single)),
-        28
+        disk.write(file, at(4096)?, part(1), Path::Single),
+        Err(WriteFault::from(NO_ROOM))
     );
     Ok(())
 }
@@ -84,9 +54,15 @@ fn a_file_has_at_most_4096(rt: HostRuntime) -> Result<(), Fail> {
     let mut disk = FlatDisk::new(Vec::new(rt.alloc()));
     let file = disk.open(&key(b"a")?)?;
     disk.header(file, part(4096))?;
-    assert_eq!(rt; write_code(disk.header(file, part(4097))), 28);
+    assert_eq!(rt;
+        disk.header(file, part(4097)),
+        Err(WriteFault::from(NO_ROOM))
+    );
     disk.resize(file, at(4095)?)?;
-    assert_eq!(rt; resize_code(disk.resize(file, at(4097)?)), 28);
+    assert_eq!(rt;
+        disk.resize(file, at(4097)?),
+        Err(ResizeFault::from(NO_ROOM))
+    );
     assert_eq!(rt; disk.length(file)?, 4095);
     disk.resize(file, at(4096)?)?;
     assert_eq!(rt; disk.length(file)?, 4096);
@@ -99,7 +75,7 @@ fn the_lowest_of_eight_numbers(rt: HostRuntime) -> Result<(), Fail> {
     for (i, name) in b"abcdefgh".iter().enumerate() {
         assert_eq!(rt; disk.open(&key(&[*name])?)?, i as u64);
     }
-    assert_eq!(rt; open_code(disk.open(&key(b"i")?)), 28);
+    assert_eq!(rt; disk.open(&key(b"i")?), Err(OpenFault::from(NO_ROOM)));
     disk.unbind(&key(b"d")?)?;
     disk.close(3);
     assert_eq!(rt; disk.open(&key(b"i")?)?, 3);
@@ -109,17 +85,18 @@ fn the_lowest_of_eight_numbers(rt: HostRuntime) -> Result<(), Fail> {
 #[test]
 fn an_open_is_planned(rt: HostRuntime) -> Result<(), Fail> {
     for (entry, code) in [
-        (0u16, 0u16),
-        (1, 1),
-        (4, 0),
-        (28, 28),
-        (4095, 4095),
-        (4096, 0),
-        (65535, 0),
+        (0u16, None),
+        (1, Some(1u16)),
+        (4, None),
+        (28, Some(28)),
+        (4095, Some(4095)),
+        (4096, None),
+        (65535, None),
     ] {
         let mut disk = FlatDisk::new([entry].to_vec(rt.alloc())?);
-        assert_eq!(rt; open_code(disk.open(&key(b"a")?)), code);
-        assert_eq!(rt; open_code(disk.open(&key(b"a")?)), 0, "past the end");
+        let fault = code.map(DiskFault::Code);
+        assert_eq!(rt; disk.open(&key(b"a")?).err(), fault.map(OpenFault::from));
+        assert_eq!(rt; disk.open(&key(b"a")?).err(), None, "past the end");
     }
     Ok(())
 }
@@ -127,21 +104,20 @@ fn an_open_is_planned(rt: HostRuntime) -> Result<(), Fail> {
 #[test]
 fn a_write_is_planned(rt: HostRuntime) -> Result<(), Fail> {
     for (entry, code, len) in [
-        (0u16, 0u16, 3u64),
-        (4, 4, 0),
-        (4095, 4095, 0),
-        (4096, 0, 0),
-        (4097, 0, 1),
-        (4098, 0, 2),
-        (4099, 0, 3),
-        (65535, 0, 3),
+        (0u16, None, 3u64),
+        (4, Some(4u16), 0),
+        (4095, Some(4095), 0),
+        (4096, None, 0),
+        (4097, None, 1),
+        (4098, None, 2),
+        (4099, None, 3),
+        (65535, None, 3),
     ] {
         let mut disk = FlatDisk::new([0, entry].to_vec(rt.alloc())?);
         let file = disk.open(&key(b"a")?)?;
-        assert_eq!(rt;
-            write_code(disk.write(file, at(0)?, part(3), Path::Single)),
-            code
-        );
+        let answer = disk.write(file, at(0)?, part(3), Path::Single);
+        let fault = code.map(DiskFault::Code);
+        assert_eq!(rt; answer.err(), fault.map(WriteFault::from));
         assert_eq!(rt; disk.length(file)?, len);
     }
     Ok(())
@@ -150,19 +126,21 @@ fn a_write_is_planned(rt: HostRuntime) -> Result<(), Fail> {
 #[test]
 fn an_unbinding_is_planned(rt: HostRuntime) -> Result<(), Fail> {
     for (entry, bound, absent) in [
-        (0u16, 0u16, 2u16),
-        (2, 0, 2),
-        (4, 0, 2),
-        (5, 5, 5),
-        (4096, 0, 2),
+        (0u16, None, 2u16),
+        (2, None, 2),
+        (4, None, 2),
+        (5, Some(5u16), 5),
+        (4096, None, 2),
     ] {
         let key = key(b"a")?;
         let mut disk = FlatDisk::new([0, entry].to_vec(rt.alloc())?);
         disk.open(&key)?;
-        assert_eq!(rt; unbind_code(disk.unbind(&key)), bound);
+        let fault = bound.map(DiskFault::Code);
+        assert_eq!(rt; disk.unbind(&key).err(), fault.map(UnbindFault::from));
         let mut disk = FlatDisk::new([entry, entry].to_vec(rt.alloc())?);
-        assert_eq!(rt; unbind_code(disk.unbind(&key)), absent);
-        assert_eq!(rt; unbind_code(disk.unbind_partition(key.partition())), absent);
+        let absent = Err(UnbindFault::from(DiskFault::Code(absent)));
+        assert_eq!(rt; disk.unbind(&key), absent);
+        assert_eq!(rt; disk.unbind_partition(key.partition()), absent);
     }
     Ok(())
 }
@@ -174,7 +152,11 @@ fn a_file_goes_with_its_last_hold(rt: HostRuntime) -> Result<(), Fail> {
     let file = disk.open(&key)?;
     disk.close(file);
     assert!(rt; disk.file(file).is_some(), "bound");
-    assert_eq!(rt; length_code(disk.length(file)), 9, "not held");
+    assert_eq!(rt;
+        disk.length(file),
+        Err(LengthFault::from(NOT_HELD)),
+        "not held"
+    );
     assert_eq!(rt; disk.open(&key)?, file);
     disk.unbind(&key)?;
     assert!(rt; disk.file(file).is_some(), "held");

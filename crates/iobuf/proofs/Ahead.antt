@@ -1,25 +1,34 @@
--- What the next chunks have, one length on, and that they have something while a byte is left. Assumes nothing.
-use Rattle.std.proofs.Common.{◌≡◌, ℕ, zero, suc, ◌+◌, ◌-◌, ◌<◌, ◌≤◌, leb, List, [], ◌∷◌, length, get_or, drop, refl, ◌∙◌, arith}
-use Rattle.std.proofs.lemmas.List.{at_drop_more}
-use Rattle.std.proofs.lemmas.Bool.{cond_both, cond-true, cond-false, le-leb, lt-leb, leb-true, leb-false}
+-- What the next chunks have: it is the sum of the parts that are not down, and it is something while a byte is left. Assumes nothing.
+use Rattle.std.proofs.Common.{◌≡◌, ℕ, zero, suc, ◌+◌, ◌-◌, ◌<◌, ◌≤◌, min, leb, not, ◌==◌, List, [], ◌∷◌, take, sum, refl, arith}
+use Rattle.std.specs.List.{fold, filter, scan}
+use Rattle.std.proofs.lemmas.Bool.{cond_both, leb-true, leb-false}
+use Rattle.std.proofs.lemmas.Bool.Decides.{nat_tests}
+use Rattle.std.proofs.lemmas.List.Sums.{sum_by-cons}
 use Rattle.rules.specs.Chunks.{ahead, total}
 
-pub ahead_none : (c : ℕ) (xs : List ℕ) (down : ℕ) → c ≡ 0 → ahead c xs down ≡ 0
-ahead_none c [] down e = refl
-ahead_none zero (x ∷ xs) down e = refl
-ahead_none (suc c) (x ∷ xs) down e = absurd (omega arith)
+-- what of each length is not down yet, where that is something
+abbrev pub parts : List ℕ → ℕ → List ℕ
+parts xs down = filter (λ n. not (n == 0)) (scan (λ d n. d - n) (λ d n. n - d) down xs)
 
--- a length that is down takes no room
-pub ahead_past : (c : ℕ) (xs : List ℕ) (i down : ℕ) → 0 < c → i < length xs → get_or xs i 0 ≤ down → ahead c (drop i xs) down ≡ ahead c (drop (i + 1) xs) (down - get_or xs i 0)
-ahead_past zero xs i down p h le = absurd (omega arith)
-ahead_past (suc c) xs i down p h le = at_drop_more (λ ys. ahead (suc c) ys down) xs i 0 h ∙ cond-true _ _ _ (le-leb _ _ le)
+pub sum_parts : (c : ℕ) (xs : List ℕ) (down : ℕ) → sum (take c (parts xs down)) ≡ ahead c xs down
+sum_parts zero [] down = refl
+sum_parts zero (x ∷ xs) down = refl
+sum_parts (suc c) [] down = refl
+sum_parts (suc c) (x ∷ xs) down =
+    let past = sum_parts (suc c) xs (down - x) in
+    let more = sum_parts c xs 0 in
+    let first = sum_by-cons (λ n. n) (x - down) (take c (parts xs 0)) in
+    grind (arith, nat_tests)
 
--- any other is a chunk
-pub ahead_more : (c : ℕ) (xs : List ℕ) (i down : ℕ) → 0 < c → i < length xs → down < get_or xs i 0 → ahead c (drop i xs) down ≡ get_or xs i 0 - down + ahead (c - 1) (drop (i + 1) xs) 0
-ahead_more zero xs i down p h lt = absurd (omega arith)
-ahead_more (suc c) xs i down p h lt =
-    let k : suc c - 1 ≡ c = omega arith in
-    rw k (at_drop_more (λ ys. ahead (suc c) ys down) xs i 0 h ∙ cond-false _ _ _ (lt-leb _ _ lt))
+-- a sum that stays at the most it may be
+abbrev pub up_to : ℕ → ℕ → ℕ → ℕ
+up_to most a n = min (a + n) most
+
+pub fold_up_to : (most a : ℕ) (xs : List ℕ) → a ≤ most → fold (up_to most) a xs ≡ min (a + sum xs) most
+fold_up_to most a [] h = omega arith
+fold_up_to most a (x ∷ xs) h =
+    let e = fold_up_to most (up_to most a x) xs (omega arith) in
+    omega (arith, sum_by-cons (λ n. n) x xs)
 
 -- while the lengths have more than is down, something is ahead
 pub ahead_some : (c : ℕ) (xs : List ℕ) (down : ℕ) → 0 < c → down < total xs → 0 < ahead c xs down

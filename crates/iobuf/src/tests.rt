@@ -1,5 +1,6 @@
 // Chunks and submissions on both sides of each of their bounds.
 use crate::{chunk_count, header_ok, next_len, sizes_ok};
+use std::array;
 
 #[test]
 fn chunks_are_counted(rt: HostRuntime) {
@@ -54,12 +55,7 @@ fn submissions_from_within_a_chunk(rt: HostRuntime) {
     assert_eq!(rt; next_len(&[0, 2, 0, 0, 3, 0], 0, 5), 5);
     assert_eq!(rt; next_len(&[0, 2, 0, 0, 3, 0], 2, 3), 3);
     assert_eq!(rt; next_len(&[0, 2, 0, 0, 3, 0], 4, 1), 1);
-    let mut every_other = [0; 4_096];
-    for (i, length) in every_other.iter_mut().enumerate() {
-        if i % 2 == 1 {
-            *length = 1;
-        }
-    }
+    let every_other: [u64; 4_096] = array::from_fn(|i| (i % 2) as u64);
     assert_eq!(rt; next_len(&every_other, 0, 2_048), 1_024);
 }
 

@@ -1,4 +1,5 @@
 pub mod Names
 pub mod Texts
-pub mod Keys
+pub mod KeyName
 pub mod Laws
+pub mod Keys

@@ -1,6 +1,10 @@
--- The bytes of a short text. Assumes nothing.
-use Rattle.std.specs.Prelude.{ℕ, List, take}
-use Rattle.keys.specs.declared.short.Short.{Short}
+-- The bytes of a short text, and how they lie in its memory. Assumes nothing.
+use Rattle.std.specs.Prelude.{ℕ, ◌-◌, List, ◌++◌, take, length, replicate}
 
-abbrev pub text : {N : ℕ} → Short N → List ℕ
-text s = take s.len s.bytes
+-- the first of the bytes
+abbrev pub text : ℕ → List ℕ → List ℕ
+text len bytes = take len bytes
+
+-- a text with zeros behind it
+abbrev pub padded : ℕ → List ℕ → List ℕ
+padded room v = v ++ replicate (room - length v) 0

@@ -2,13 +2,11 @@
 #![tactic(auto)]
 
 pub mod key;
-pub mod name;
-pub mod partition;
-mod short;
+mod kinds;
+mod text;
 
 pub use key::Key;
-pub use name::Name;
-pub use partition::Partition;
+pub use kinds::{Name, Partition};
 
 #[cfg(test)]
 mod tests;

@@ -1,16 +1,10 @@
 -- No call repeats a barrier that failed. Assumes nothing.
 use Rattle.std.proofs.Common.{ℕ, ◌+◌, Bool, true, false, cond, eqb, leb, List, length, Some, None, Ok, Err, Option, Result, refl}
-use Rattle.faults.specs.declared.disk.FlushFault.{FlushFault}
-use Rattle.faults.specs.declared.disk.LengthFault.{LengthFault}
-use Rattle.faults.specs.declared.disk.OpenFault.{OpenFault}
-use Rattle.faults.specs.declared.disk.ResizeFault.{ResizeFault}
-use Rattle.faults.specs.declared.disk.UnbindFault.{UnbindFault}
-use Rattle.faults.specs.declared.disk.WriteFault.{WriteFault}
+use Rattle.faults.specs.Kinds.{OpenFault, WriteFault, FlushFault, ResizeFault, LengthFault, UnbindFault}
 use Rattle.faults.specs.declared.store.Failure.{Failure}
 use Rattle.faults.specs.declared.store.Fault.{Fault}
-use Rattle.keys.specs.Keys.{KeyName}
+use Rattle.keys.specs.KeyName.{KeyName}
 use Rattle.disk.specs.Requests.{Request, Answer, ask_open, ask_close, ask_length, ask_read, ask_write, ask_resize, ask_start, ask_end, ask_header, ask_flush_directory, ask_flush_root, ask_unbind, ask_unbind_partition}
-use Rattle.disk.specs.Offsets.{place}
 use Rattle.rules.specs.declared.opening.Account.{Account}
 use Rattle.rules.specs.declared.opening.Mode.{Mode}
 use Rattle.rules.specs.declared.opening.Mode.TheVariants.{Existing, Fresh}
@@ -19,7 +13,8 @@ use Rattle.rules.specs.declared.ticket.Step.{Step}
 use Rattle.rules.specs.declared.ticket.Step.TheVariants.{Write, Resize, Flush, Running}
 use Rattle.rules.specs.declared.ticket.Writing.{Writing}
 use Rattle.rules.specs.Submissions.{Outcome, landed, lost}
-use Rattle.rules.specs.State.{Opening, State}
+use Rattle.rules.specs.declared.opening.Opening.{Opening}
+use Rattle.rules.specs.State.{State}
 use Rattle.rules.specs.Tree.{Prog, done, ask, submit}
 use Rattle.rules.specs.Ends.{last_out, end_from, end_rule, spend_from, spend_rule}
 use Rattle.rules.specs.Opens.{measured, existing_from, fresh_header, fresh_root, fresh_directory, opened_as, opened, open_checked, open_refused, barred, owes, new_number}
@@ -159,7 +154,7 @@ steps s t n a body lengths (Write w) =
     (transfers s t n a w))
     tt
 steps s t n a body lengths (Resize end) =
-    either Quiet (as_begun 0 0 body lengths) (either Quiet (leb (place end) last_offset) (refl, resizes s t n) (search spend)) tt
+    either Quiet (as_begun 0 0 body lengths) (either Quiet (leb end last_offset) (refl, resizes s t n) (search spend)) tt
 steps s t n a body lengths (Flush seen) = tt
 steps s t n a body lengths (Running seen mark) = tt
 

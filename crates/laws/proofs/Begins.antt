@@ -5,7 +5,8 @@ use Rattle.std.proofs.lemmas.Bool.{cases_Bool, cond_both, ltb-false}
 use Rattle.faults.specs.Numbers.{refusal}
 use Rattle.faults.specs.declared.store.Fault.{Fault}
 use Rattle.faults.specs.declared.store.Fault.TheVariants.{TooLarge, Full, Exhausted, OffsetOverflow}
-use Rattle.rules.specs.State.{Opening, State}
+use Rattle.rules.specs.declared.opening.Opening.{Opening}
+use Rattle.rules.specs.State.{State}
 use Rattle.rules.specs.Track.{is_dirty}
 use Rattle.rules.specs.Finishes.{blob_stage}
 use Rattle.rules.specs.Chunks.{sizes_ok}

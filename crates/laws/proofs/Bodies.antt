@@ -4,7 +4,7 @@ use Rattle.std.proofs.lemmas.List.{length-take, length-drop, take-take, drop-dro
 use Rattle.std.proofs.lemmas.Map.{update_here, update_apart}
 use Rattle.std.proofs.lemmas.Bool.{cases_Bool, cond_both, ne_eqb}
 use Rattle.faults.specs.Numbers.{code}
-use Rattle.faults.specs.declared.disk.WriteFault.{WriteFault}
+use Rattle.faults.specs.Kinds.{WriteFault}
 use Rattle.disk.specs.declared.path.Path.TheVariants.{Single, Vectored}
 use Rattle.disk.specs.Paths.{durable}
 use Rattle.disk.specs.Laid.{laid}

@@ -1,7 +1,7 @@
 -- One disk's answers lead a program to one end. Assumes nothing.
 use Rattle.std.proofs.Common.{◌≡◌, ℕ, ◌+◌, ◌<◌, ◌≤◌, Bool, true, false, length, Ok, Err, Result, sym, refl, ◌∙◌, subst, arith}
 use Rattle.faults.specs.Numbers.{code}
-use Rattle.faults.specs.declared.disk.WriteFault.{WriteFault}
+use Rattle.faults.specs.Kinds.{WriteFault}
 use Rattle.disk.specs.Requests.{Request, Answer}
 use Rattle.rules.specs.Submissions.{Transfer, Outcome, landed, lost, by_code, nothing_landed, patience, Submitted, Submits, all, more, stuck, again, worn, unhinted, broken}
 use Rattle.rules.specs.Tree.{Prog, done, ask, submit, Runs}

@@ -4,7 +4,8 @@ use Rattle.std.proofs.lemmas.Map.{update_here}
 use Rattle.faults.specs.Numbers.{number}
 use Rattle.faults.specs.declared.store.Fault.{Fault}
 use Rattle.faults.specs.declared.store.Fault.TheVariants.{PartitionNameInvalid, BlobNameInvalid, TooLarge, Full, Exhausted, BlobAlreadyOpen, OffsetOverflow, Io, WriteFailed, BlobSyncFailed, BlobResizeFailed, ReadFailed, BlobMissing, PartitionMissing, BlobOpenFailed, Flushing, Unsettled, Unknown, Mismatched}
-use Rattle.rules.specs.State.{Opening, State, with_opening, with_ticket}
+use Rattle.rules.specs.declared.opening.Opening.{Opening}
+use Rattle.rules.specs.State.{State, with_opening, with_ticket}
 use Rattle.rules.specs.Ends.{register, ended, end_from, end_rule, one_less, last_out, spend_from, spend_rule}
 use Rattle.rules.specs.Calls.{Call, Reply}
 use Rattle.laws.specs.Every.{Every}

@@ -2,13 +2,13 @@
 use Rattle.std.proofs.Common.{◌≡◌, ℕ, ◌<◌, Bool, true, eqb, leb, Some, None, Ok, Err, Option, Result, sym, refl, subst}
 use Rattle.std.proofs.lemmas.Bool.{false≢true, ltb-true}
 use Rattle.faults.specs.Numbers.{refusal}
-use Rattle.faults.specs.declared.disk.FlushFault.{FlushFault}
-use Rattle.faults.specs.declared.disk.LengthFault.{LengthFault}
+use Rattle.faults.specs.Kinds.{FlushFault, LengthFault}
 use Rattle.faults.specs.declared.store.Fault.TheVariants.{BlobSyncFailed, ReadFailed}
 use Rattle.faults.specs.declared.store.Failure.{Failure}
 use Rattle.faults.specs.declared.store.Failure.TheVariants.{Sync}
 use Rattle.rules.specs.declared.pending.Entry.{Entry}
-use Rattle.rules.specs.State.{Opening, State}
+use Rattle.rules.specs.declared.opening.Opening.{Opening}
+use Rattle.rules.specs.State.{State}
 use Rattle.rules.specs.Finishes.{readied, ready_rule, keep, flushed, owned, by_entry, has_out, unspent, finish_owing, owing_stage, blob_stage, finish_rule, give_up_rule, close_rule}
 use Rattle.rules.specs.Calls.{Call, to_finish, to_give_up, to_close}
 use Rattle.laws.specs.Every.{Every}

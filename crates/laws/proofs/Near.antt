@@ -3,12 +3,13 @@ use Rattle.std.proofs.Common.{◌≡◌, ℕ, ◌≤◌, Bool, true, false, cond
 use Rattle.std.specs.Option.{option_map}
 use Rattle.std.proofs.lemmas.Map.{update_here, update_apart}
 use Rattle.std.proofs.lemmas.Bool.{cases_eq}
-use Rattle.keys.specs.Keys.{KeyName, same_key}
-use Rattle.keys.proofs.Same.{same_key_decides}
+use Rattle.keys.specs.KeyName.{KeyName, same_key}
+use Rattle.keys.specs.Laws.{same_key_decides}
 use Rattle.rules.specs.declared.opening.Account.{Account}
 use Rattle.rules.specs.declared.pending.Entry.{Entry}
 use Rattle.rules.specs.declared.ticket.Ticket.{Ticket}
-use Rattle.rules.specs.State.{Opening, State, with_name, with_opening, with_ticket, with_admitted, with_account}
+use Rattle.rules.specs.declared.opening.Opening.{Opening}
+use Rattle.rules.specs.State.{State, with_name, with_opening, with_ticket, with_admitted, with_account}
 use Rattle.rules.specs.Ends.{change}
 use Rattle.laws.specs.Refusals.{Subject, AboutName, AboutOpening, AboutTicket, Credit, Spares}
 

@@ -4,17 +4,16 @@ use Rattle.std.specs.Option.{option_map}
 use Rattle.std.proofs.lemmas.Map.{update_here}
 use Rattle.std.proofs.lemmas.Bool.{true≢false, and_cases, or_parts, ltb-false}
 use Rattle.faults.specs.Numbers.{refusal}
-use Rattle.faults.specs.declared.disk.OpenFault.{OpenFault}
-use Rattle.faults.specs.declared.disk.WriteFault.{WriteFault}
-use Rattle.faults.specs.declared.disk.LengthFault.{LengthFault}
+use Rattle.faults.specs.Kinds.{OpenFault, WriteFault, LengthFault}
 use Rattle.faults.specs.declared.store.Fault.{Fault}
 use Rattle.faults.specs.declared.store.Fault.TheVariants.{PartitionNameInvalid, BlobNameInvalid, TooLarge, Full, Exhausted, BlobAlreadyOpen, Io, ReadFailed}
-use Rattle.keys.specs.Keys.{KeyName}
+use Rattle.keys.specs.KeyName.{KeyName}
 use Rattle.keys.specs.Names.{partition_ok, name_ok}
 use Rattle.rules.specs.declared.opening.Mode.{Mode}
 use Rattle.rules.specs.declared.opening.Mode.TheVariants.{Existing, Fresh}
 use Rattle.rules.specs.declared.pending.Entry.{Entry}
-use Rattle.rules.specs.State.{Opening, State, with_name, with_opening, with_admitted}
+use Rattle.rules.specs.declared.opening.Opening.{Opening}
+use Rattle.rules.specs.State.{State, with_name, with_opening, with_admitted}
 use Rattle.rules.specs.Ends.{live, end_rule}
 use Rattle.rules.specs.Opens.{room, open_refused, barred, owes, new_account, new_number, admit, measured, existing_from, fresh_header, fresh_root, fresh_directory, opened_as, opened, open_checked, open_rule}
 use Rattle.rules.specs.Calls.{Call, to_open}

@@ -9,7 +9,8 @@ use Rattle.faults.specs.declared.store.Failure.{Failure}
 use Rattle.faults.specs.declared.store.Failure.TheVariants.{Header, Write, Sync}
 use Rattle.disk.specs.Requests.{Request, Answer}
 use Rattle.rules.specs.declared.ticket.Ticket.{Ticket}
-use Rattle.rules.specs.State.{Opening, State}
+use Rattle.rules.specs.declared.opening.Opening.{Opening}
+use Rattle.rules.specs.State.{State}
 use Rattle.rules.specs.Tree.{Prog, done, ask, submit, Runs}
 use Rattle.rules.specs.Ends.{end_from, end_rule, last_out, spend_from, spend_rule}
 use Rattle.rules.specs.Opens.{unless}

@@ -1,18 +1,12 @@
 -- Every call keeps the tickets of writes within reach. Assumes nothing.
 use Rattle.std.proofs.Common.{◌≡◌, ℕ, ◌+◌, ◌≤◌, Bool, true, false, cond, eqb, leb, List, length, Some, None, Ok, Err, Option, Result, refl, inl, inr, arith}
 use Rattle.std.proofs.lemmas.Bool.{cases_Bool, cond_both, leb-true}
-use Rattle.faults.specs.declared.disk.FlushFault.{FlushFault}
-use Rattle.faults.specs.declared.disk.LengthFault.{LengthFault}
-use Rattle.faults.specs.declared.disk.OpenFault.{OpenFault}
-use Rattle.faults.specs.declared.disk.ResizeFault.{ResizeFault}
-use Rattle.faults.specs.declared.disk.UnbindFault.{UnbindFault}
-use Rattle.faults.specs.declared.disk.WriteFault.{WriteFault}
+use Rattle.faults.specs.Kinds.{OpenFault, WriteFault, FlushFault, ResizeFault, LengthFault, UnbindFault}
 use Rattle.faults.specs.declared.store.Failure.{Failure}
 use Rattle.faults.specs.declared.store.Failure.TheVariants.{Header, Sync}
 use Rattle.faults.specs.declared.store.Fault.{Fault}
 use Rattle.faults.specs.declared.store.Fault.TheVariants.{Io, BlobSyncFailed}
-use Rattle.keys.specs.Keys.{KeyName}
-use Rattle.disk.specs.Offsets.{place}
+use Rattle.keys.specs.KeyName.{KeyName}
 use Rattle.table.specs.Maps.{Map, put}
 use Rattle.rules.specs.declared.opening.Account.{Account}
 use Rattle.rules.specs.declared.opening.Mode.{Mode}
@@ -23,7 +17,8 @@ use Rattle.rules.specs.declared.ticket.Step.TheVariants.{Write, Resize, Flush, R
 use Rattle.rules.specs.declared.ticket.Ticket.{Ticket}
 use Rattle.rules.specs.declared.ticket.Writing.{Writing}
 use Rattle.rules.specs.Submissions.{Outcome, landed, lost, loss_refusal}
-use Rattle.rules.specs.State.{Opening, State}
+use Rattle.rules.specs.declared.opening.Opening.{Opening}
+use Rattle.rules.specs.State.{State}
 use Rattle.rules.specs.Tree.{Prog}
 use Rattle.rules.specs.Ends.{change, last_out, end_from, end_rule, spend_from, spend_rule}
 use Rattle.rules.specs.Opens.{measured, existing_from, fresh_header, fresh_root, fresh_directory, opened_as, opened, open_checked, open_refused, barred, owes, new_number, admit, fail_name}
@@ -46,7 +41,7 @@ Keeps p = Every (λ x. WithinReach x.1) p
 
 -- what a ticket may be, so that all stay within reach
 abbrev Fit : Option Ticket → Type 0
-Fit v = (k : Ticket) (w : Writing) → v ≡ Some k → k.step ≡ Write w → place w.offset + w.length ≤ 9223372036854775807
+Fit v = (k : Ticket) (w : Writing) → v ≡ Some k → k.step ≡ Write w → w.offset + w.length ≤ 9223372036854775807
 
 changed : (m : Map ℕ Ticket) (t : ℕ) (v : Option Ticket) → Reachable m → Fit v → Reachable (put eqb m t v)
 changed m t v h new u k w e step =
@@ -55,7 +50,7 @@ changed m t v h new u k w e step =
 fit_none : Fit None
 fit_none k w e step = let z : ◌≡◌ {A = ℕ} 0 1 = cc in absurd (omega arith)
 
-fit_some : (q : Ticket) → ((w : Writing) → q.step ≡ Write w → place w.offset + w.length ≤ 9223372036854775807) → Fit (Some q)
+fit_some : (q : Ticket) → ((w : Writing) → q.step ≡ Write w → w.offset + w.length ≤ 9223372036854775807) → Fit (Some q)
 fit_some q h k w e step = let same : k ≡ q = cc in h w (rw same at step)
 
 fit_flush : (n seen : ℕ) → Fit (Some (record { opening = n; step = Flush seen }))
@@ -64,10 +59,10 @@ fit_flush n seen = fit_some _ (λ w e. let z : ◌≡◌ {A = ℕ} 0 1 = cc in a
 fit_running : (n seen mark : ℕ) → Fit (Some (record { opening = n; step = Running seen mark }))
 fit_running n seen mark = fit_some _ (λ w e. let z : ◌≡◌ {A = ℕ} 0 1 = cc in absurd (omega arith))
 
-fit_resize : (n end : ℕ) → Fit (Some (record { opening = n; step = Resize (record { 0 = end }) }))
+fit_resize : (n end : ℕ) → Fit (Some (record { opening = n; step = Resize end }))
 fit_resize n end = fit_some _ (λ w e. let z : ◌≡◌ {A = ℕ} 0 1 = cc in absurd (omega arith))
 
-fit_write : (n : ℕ) (v : Writing) → place v.offset + v.length ≤ 9223372036854775807 → Fit (Some (record { opening = n; step = Write v }))
+fit_write : (n : ℕ) (v : Writing) → v.offset + v.length ≤ 9223372036854775807 → Fit (Some (record { opening = n; step = Write v }))
 fit_write n v h = fit_some _ (λ w e. let same : v ≡ w = cc in rw same at h)
 
 -- ---- the ends of openings and tickets
@@ -199,7 +194,7 @@ steps s h t n a body lengths (Write w) =
     (either Keeps w.fused (either Keeps a.flushing h (fails s h t n a.tracker.failure _ (transfers s h t n a w))) (transfers s h t n a w))
     h
 steps s h t n a body lengths (Resize end) =
-    either Keeps (as_begun 0 0 body lengths) (either Keeps (leb (place end) last_offset) (resizes s h t n) (spend s h t n _)) h
+    either Keeps (as_begun 0 0 body lengths) (either Keeps (leb end last_offset) (resizes s h t n) (spend s h t n _)) h
 steps s h t n a body lengths (Flush seen) = h
 steps s h t n a body lengths (Running seen mark) = h
 

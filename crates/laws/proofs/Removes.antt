@@ -1,14 +1,11 @@
 -- Every end of a removal, and of what only asks, is fair. Assumes nothing.
 use Rattle.std.proofs.Common.{ℕ, ◌+◌, Bool, true, false, cond, eqb, leb, List, Some, None, Ok, Err, Option, Result, refl, arith}
 use Rattle.faults.specs.Numbers.{code}
-use Rattle.faults.specs.declared.disk.LengthFault.{LengthFault}
-use Rattle.faults.specs.declared.disk.UnbindFault.{UnbindFault}
-use Rattle.faults.specs.declared.disk.WriteFault.{WriteFault}
+use Rattle.faults.specs.Kinds.{WriteFault, LengthFault, UnbindFault}
 use Rattle.faults.specs.declared.store.Fault.{Fault}
 use Rattle.faults.specs.declared.store.Fault.TheVariants.{PartitionNameInvalid, BlobNameInvalid, Io, PartitionMissing}
-use Rattle.keys.specs.Keys.{KeyName}
+use Rattle.keys.specs.KeyName.{KeyName, in_partition}
 use Rattle.keys.specs.Names.{partition_ok, name_ok}
-use Rattle.disk.specs.Rules.{in_partition}
 use Rattle.rules.specs.State.{State}
 use Rattle.rules.specs.Finishes.{blob_stage}
 use Rattle.rules.specs.Begins.{last_word}

@@ -3,19 +3,18 @@ use Rattle.std.proofs.Common.{ℕ, Bool, leb, List, Some, None, Ok, Err, Option,
 use Rattle.std.proofs.lemmas.Bool.{cond_both}
 use Rattle.faults.specs.Numbers.{refusal}
 use Rattle.faults.specs.declared.disk.DiskFault.TheVariants.{Code}
-use Rattle.faults.specs.declared.disk.FlushFault.{FlushFault}
-use Rattle.faults.specs.declared.disk.ResizeFault.{ResizeFault}
+use Rattle.faults.specs.Kinds.{FlushFault, ResizeFault}
 use Rattle.faults.specs.declared.store.Fault.{Fault}
 use Rattle.faults.specs.declared.store.Fault.TheVariants.{BlobSyncFailed, BlobResizeFailed}
 use Rattle.faults.specs.declared.store.Failure.{Failure}
 use Rattle.faults.specs.declared.store.Failure.TheVariants.{Sync}
-use Rattle.disk.specs.Offsets.{place}
 use Rattle.disk.specs.declared.offset.FileOffset.{FileOffset}
 use Rattle.rules.specs.declared.opening.Account.{Account}
 use Rattle.rules.specs.declared.ticket.Step.{Step}
 use Rattle.rules.specs.declared.ticket.Step.TheVariants.{Write, Resize, Flush, Running}
 use Rattle.rules.specs.declared.ticket.Writing.{Writing}
-use Rattle.rules.specs.State.{Opening, State, with_account}
+use Rattle.rules.specs.declared.opening.Opening.{Opening}
+use Rattle.rules.specs.State.{State, with_account}
 use Rattle.rules.specs.Submissions.{Outcome, landed, lost, Loss, by_code, by_nothing, loss_refusal}
 use Rattle.rules.specs.Tree.{Prog}
 use Rattle.rules.specs.Ends.{change, spend_rule}
@@ -106,7 +105,7 @@ module _ (s : State) (t : ℕ) (body lengths : List ℕ) (h : Held) (u : Ours s 
 
   resize_fair : (end : FileOffset) → Every (Fair s runs) (run_resize s t n a end)
   resize_fair end =
-      every_cond (Fair s runs) (leb (place end) last_offset) _ _ (λ _. resized_fair)
+      every_cond (Fair s runs) (leb end last_offset) _ _ (λ _. resized_fair)
       (λ _. spends runs u (BlobResizeFailed (Code 22)) (refl, refl, tt) u.found (refl, refl))
 
   step_fair : (k : Step) → Every (Fair s runs) (run_step s t n a body lengths k)

@@ -2,7 +2,7 @@
 use Rattle.std.proofs.Common.{◌≡◌, ℕ, zero, suc, ◌+◌, ◌-◌, ◌*◌, ◌<◌, ◌≤◌, Bool, false, cond, length, Ok, Err, Result, refl, ap, inl, inr, arith}
 use Rattle.std.proofs.lemmas.Bool.{cases_lt, cases_eq, cases_Bool, false≢true}
 use Rattle.faults.specs.Numbers.{code}
-use Rattle.faults.specs.declared.disk.WriteFault.{WriteFault}
+use Rattle.faults.specs.Kinds.{WriteFault}
 use Rattle.disk.specs.Requests.{Request, Answer}
 use Rattle.rules.specs.Submissions.{Transfer, Outcome, landed, lost, by_code, nothing_landed, patience, Submitted, Submits, all, more, stuck, again, worn, unhinted, broken}
 use Rattle.rules.specs.Tree.{Prog, done, ask, submit, Runs}

@@ -9,7 +9,8 @@ use Rattle.rules.specs.declared.opening.Account.{Account}
 use Rattle.rules.specs.declared.ticket.Step.{Step}
 use Rattle.rules.specs.declared.ticket.Step.TheVariants.{Write}
 use Rattle.rules.specs.Chunks.{sizes_ok}
-use Rattle.rules.specs.State.{Opening, State}
+use Rattle.rules.specs.declared.opening.Opening.{Opening}
+use Rattle.rules.specs.State.{State}
 use Rattle.rules.specs.Tree.{Prog, done, Runs}
 use Rattle.rules.specs.Opens.{unless}
 use Rattle.rules.specs.Finishes.{at_stage, blob_stage}

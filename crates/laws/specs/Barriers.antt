@@ -1,6 +1,6 @@
 -- After a barrier that failed, a call asks for no other. Assumes nothing.
 use Rattle.std.specs.Prelude.{◌≡◌, Bool, true, false, Err}
-use Rattle.faults.specs.declared.disk.FlushFault.{FlushFault}
+use Rattle.faults.specs.Kinds.{FlushFault}
 use Rattle.disk.specs.Requests.{Request, Answer, ask_open, ask_close, ask_length, ask_read, ask_write, ask_resize, ask_start, ask_end, ask_header, ask_flush_directory, ask_flush_root, ask_unbind, ask_unbind_partition}
 use Rattle.rules.specs.Submissions.{Outcome}
 use Rattle.rules.specs.State.{State}

@@ -1,14 +1,14 @@
 -- The buffers of a submission, and that each is one that pwritev2(2) accepts. Assumes nothing.
 use Rattle.std.specs.Prelude.{◌≡◌, ℕ, zero, suc, ◌+◌, ◌-◌, ◌<◌, ◌≤◌, true, cond, List, [], ◌∷◌, length, take, drop, Some, Ok, nat_le}
 use Rattle.std.specs.List.{AllByRecursion}
-use Rattle.disk.specs.Offsets.{place}
 use Rattle.disk.specs.Pages.{Accepted, joined}
 use Rattle.disk.specs.Requests.{Request, Answer}
 use Rattle.rules.specs.declared.ticket.Step.TheVariants.{Write}
 use Rattle.rules.specs.declared.ticket.Ticket.{Ticket}
 use Rattle.rules.specs.declared.ticket.Writing.{Writing}
 use Rattle.rules.specs.Chunks.{batch, chunks, next_bytes, sizes_ok}
-use Rattle.rules.specs.State.{Opening, State}
+use Rattle.rules.specs.declared.opening.Opening.{Opening}
+use Rattle.rules.specs.State.{State}
 use Rattle.rules.specs.Tree.{Runs}
 use Rattle.rules.specs.Begins.{Options, ticket}
 use Rattle.rules.specs.Calls.{rule, to_write}
@@ -50,7 +50,7 @@ pub record BegunWithin (s : State) (n at : ℕ) (body lengths : List ℕ) (t : �
   pub given : s'.tickets.at t ≡ Some ticket
   pub its_opening : ticket.opening ≡ n
   pub its_step : ticket.step ≡ Write writing
-  pub its_offset : place writing.offset ≡ at + opening.account.offset
+  pub its_offset : writing.offset ≡ at + opening.account.offset
   pub its_length : writing.length ≡ length body
   pub its_chunks : writing.chunks ≡ chunks lengths
 

@@ -1,7 +1,6 @@
 -- No write that calls lead to goes past the largest offset of a file, and so its run submits only what is accepted.
 -- Assumes nothing.
 use Rattle.std.specs.Prelude.{◌≡◌, ℕ, ◌+◌, ◌<◌, ◌≤◌, true, List, length, Some}
-use Rattle.disk.specs.Offsets.{place}
 use Rattle.disk.specs.Requests.{Answer}
 use Rattle.table.specs.Maps.{Map}
 use Rattle.rules.specs.declared.ticket.Step.TheVariants.{Write}
@@ -17,7 +16,7 @@ use Rattle.laws.specs.Buffers.{buffers, Submission}
 
 -- every ticket of a write ends no further than the largest offset of a file
 abbrev pub Reachable : Map ℕ Ticket → Type 0
-Reachable m = (t : ℕ) (k : Ticket) (w : Writing) → m.at t ≡ Some k → k.step ≡ Write w → place w.offset + w.length ≤ 9223372036854775807
+Reachable m = (t : ℕ) (k : Ticket) (w : Writing) → m.at t ≡ Some k → k.step ≡ Write w → w.offset + w.length ≤ 9223372036854775807
 
 abbrev pub WithinReach : State → Type 0
 WithinReach s = Reachable s.tickets

@@ -1,4 +1,2 @@
-pub mod Seen
-pub mod Opens
 pub mod Parts
 pub mod Changes

@@ -1,7 +1,8 @@
 -- A rule that may close a file last is its two parts. Assumes nothing.
 use Rattle.std.proofs.Common.{◌≡◌, ℕ, Bool, true, false, cond, eqb, Some, None, Option, refl}
 use Rattle.disk.specs.Requests.{ask_close}
-use Rattle.rules.specs.State.{Opening, State, with_opening, with_ticket}
+use Rattle.rules.specs.declared.opening.Opening.{Opening}
+use Rattle.rules.specs.State.{State, with_opening, with_ticket}
 use Rattle.rules.specs.Tree.{Prog, done, ask}
 use Rattle.rules.specs.Ends.{end_from, end_rule, ended, last_out, one_less, register, retire, spend_from, spend_rule}
 use Rattle.ledger.specs.Parts.{closing, end_file, end_file_of, end_state, end_state_from, spend_file, spend_file_of, spend_state, spent_state_from}

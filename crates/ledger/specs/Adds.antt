@@ -1,11 +1,12 @@
 -- A new opening and a new ticket in the tables, and what an open is told before the disk is asked. Assumes nothing.
 use Rattle.std.specs.Prelude.{◌≡◌, ℕ, Bool, ◌&&◌, List, Some, None, Result, MatchResult, nat_lt}
 use Rattle.faults.specs.declared.store.Fault.{Fault}
-use Rattle.keys.specs.Keys.{KeyName, key_name}
+use Rattle.keys.specs.KeyName.{KeyName}
 use Rattle.keys.specs.declared.key.Key.{Key}
 use Rattle.table.specs.Maps.{fits, taken}
 use Rattle.rules.specs.declared.ticket.Ticket.{Ticket}
-use Rattle.rules.specs.State.{Opening, State, with_opening, with_ticket, with_admitted, with_given}
+use Rattle.rules.specs.declared.opening.Opening.{Opening}
+use Rattle.rules.specs.State.{State, with_opening, with_ticket, with_admitted, with_given}
 use Rattle.rules.specs.Opens.{new_number, open_refused}
 use Rattle.rules.specs.Begins.{last_word, new_ticket}
 
@@ -31,4 +32,4 @@ named p n = record { partition = p; name = n }
 
 -- the key of q where nothing is refused, or the first refusal
 abbrev pub OpenCheck : State → KeyName → ℕ → Result Key Fault → Type 0
-OpenCheck s q header r = MatchResult r (λ k. (open_refused s q header ≡ None) × (key_name k ≡ q)) (λ f. open_refused s q header ≡ Some f)
+OpenCheck s q header r = MatchResult r (λ k. (open_refused s q header ≡ None) × (k ≡ q)) (λ f. open_refused s q header ≡ Some f)

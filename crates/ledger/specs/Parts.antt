@@ -2,7 +2,8 @@
 use Rattle.std.specs.Prelude.{ℕ, Bool, true, cond, Some, None, Option, ◌==◌}
 use Rattle.disk.specs.Requests.{ask_close}
 use Rattle.rules.specs.declared.pending.Entry.{Entry}
-use Rattle.rules.specs.State.{Opening, State, with_opening, with_ticket}
+use Rattle.rules.specs.declared.opening.Opening.{Opening}
+use Rattle.rules.specs.State.{State, with_opening, with_ticket}
 use Rattle.rules.specs.Tree.{Prog, done, ask}
 use Rattle.rules.specs.Ends.{ended, is_over, last_out, one_less, register, retire}
 

@@ -2,10 +2,8 @@
 // the calls of a store do to them. All memory is had when they are made.
 #![tactic(auto)]
 
-pub mod open;
 pub mod tables;
 
-pub use open::Open;
 pub use tables::Ledger;
 
 #[cfg(test)]

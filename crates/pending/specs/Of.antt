@@ -1,19 +1,14 @@
 -- What the entries of names stand for, and how one of them settles. Assumes nothing.
-use Rattle.std.specs.Prelude.{ℕ, Bool, Some, None, vec_items, Option}
-use Rattle.keys.specs.Keys.{KeyName, same_key}
+use Rattle.std.specs.Prelude.{ℕ, Bool, Some, None, Option}
+use Rattle.keys.specs.KeyName.{KeyName}
 use Rattle.table.specs.Maps.{Map}
-use Rattle.table.specs.Held.{map_of}
+use Rattle.table.specs.Of.{map}
 use Rattle.rules.specs.declared.pending.Entry.{Entry}
 use Rattle.rules.specs.declared.tracker.Tracker.{Tracker}
 use Rattle.faults.specs.declared.store.Fault.{Fault}
 use Rattle.rules.specs.Ends.{settled, unless_free_if}
 use Rattle.rules.specs.Opens.{barred_while}
-use Rattle.pending.specs.declared.names.Names.{Names}
 use Rattle.pending.specs.declared.entries.Pending.{Pending}
-use Rattle.pending.specs.Slots.{key_of, entry_of}
-
-abbrev pub map : Names → Map KeyName Entry
-map n = map_of same_key key_of entry_of (vec_items n.items)
 
 abbrev pub entries : Pending → Map KeyName Entry
 entries p = map p.names

@@ -2,10 +2,8 @@
 #![tactic(auto)]
 
 pub mod entries;
-mod named;
-mod names;
 
-pub use entries::Pending;
+pub use entries::{NAMES, Pending};
 
 #[cfg(test)]
 mod tests;

@@ -7,10 +7,7 @@ use std::test::Fail;
 
 // The opening, the unsettled opening and the debt of an entry.
 fn parts(entry: Option<Entry>) -> Option<(u64, Option<u64>, bool)> {
-    match entry {
-        Some(entry) => Some((entry.opening, entry.unsettled, entry.dirty)),
-        None => None,
-    }
+    entry.map(|entry| (entry.opening, entry.unsettled, entry.dirty))
 }
 
 // A dirty opening that ends leaves its debt to the next, and only that one clears it.
@@ -18,7 +15,7 @@ fn parts(entry: Option<Entry>) -> Option<(u64, Option<u64>, bool)> {
 fn debt_is_taken_over(rt: HostRuntime) -> Result<(), Fail> {
     let mut pending = Pending::new(rt.alloc())?;
     let key = Key::new(b"p", b"n")?;
-    assert!(rt; pending.admit(&key, 1, &None));
+    assert_eq!(rt; pending.admit(&key, 1, &None), Ok(()));
     pending.register(&key, 1);
     assert_eq!(rt; parts(pending.find(&key)), Some((1, Some(1), false)));
     pending.settle(
@@ -34,7 +31,7 @@ fn debt_is_taken_over(rt: HostRuntime) -> Result<(), Fail> {
     );
     assert_eq!(rt; parts(pending.find(&key)), Some((1, None, true)));
     let was = pending.find(&key);
-    assert!(rt; pending.admit(&key, 2, &was));
+    assert_eq!(rt; pending.admit(&key, 2, &was), Ok(()));
     assert_eq!(rt; parts(pending.find(&key)), Some((2, None, true)));
     pending.clear(&key, 1);
     assert_eq!(rt; parts(pending.find(&key)), Some((2, None, true)));
@@ -49,7 +46,7 @@ fn clear_entries_are_freed(rt: HostRuntime) -> Result<(), Fail> {
     let key = Key::new(b"p", b"n")?;
     for (ended, held) in [(true, 0), (false, 1)] {
         let mut pending = Pending::new(rt.alloc())?;
-        assert!(rt; pending.admit(&key, 1, &None));
+        assert_eq!(rt; pending.admit(&key, 1, &None), Ok(()));
         pending.register(&key, 1);
         pending.settle(
             &key,
@@ -74,17 +71,14 @@ fn names_are_forgotten(rt: HostRuntime) -> Result<(), Fail> {
     let first = Key::new(b"p", b"a")?;
     let second = Key::new(b"q", b"b")?;
     let third = Key::new(b"p", b"c")?;
-    assert!(rt; pending.admit(&first, 1, &None));
-    assert!(rt; pending.admit(&second, 2, &None));
-    assert!(rt; pending.admit(&third, 3, &None));
+    assert_eq!(rt; pending.admit(&first, 1, &None), Ok(()));
+    assert_eq!(rt; pending.admit(&second, 2, &None), Ok(()));
+    assert_eq!(rt; pending.admit(&third, 3, &None), Ok(()));
     pending.fail(&second, 2, Failure::Write);
     pending.forget_partition(&Partition::new(b"p")?);
     assert_eq!(rt; pending.held(), 1);
-    match pending.key_at(0) {
-        Some(key) => assert!(rt; key == second),
-        None => return Err(Fail::new("no name is held")),
-    }
-    assert!(rt; pending.key_at(1).is_none());
+    assert_eq!(rt; pending.key_at(0), Some(second));
+    assert_eq!(rt; pending.key_at(1), None);
     pending.forget(&second);
     assert_eq!(rt; pending.held(), 0);
     Ok(())

@@ -2,112 +2,85 @@
 // strips may be called safe: once on a disk without faults, and once on one whose plan has three.
 #![tactic(auto)]
 
-mod asked;
+mod counted;
 mod job;
+mod open_sheet;
+mod refused;
 mod sheet;
+mod verdicts;
 
+use counted::Counted;
 use faults::Fault;
 use flat::FlatDisk;
-use job::{Job, Verdict};
+use job::{Grid, Job};
 use keys::Key;
-use sheet::STRIPS;
-use std::io;
+use open_sheet::EINTR;
+use refused::Refused;
+use std::alloc::{AllocError, Global};
+use std::{fmt, io};
 
-// What stops a roll before it has a sheet.
-fn show_refusal(rt: HostRuntime, fault: Fault) -> io::Result<()> {
-    match fault.code() {
-        Some(code) => println!(rt; "refused {} code {code}", fault.number()),
-        None => println!(rt; "refused {}", fault.number()),
-    }
+// What is said of a sheet that was made and read back.
+#[derive(Drop)]
+struct Account {
+    job: Job<Counted<FlatDisk>>,
+    grid: Grid,
 }
 
-// Strips are written in their order, so the safe ones come first, then one that was lost, then what was not written.
-fn show_strips(rt: HostRuntime, job: &Job<FlatDisk>) -> io::Result<()> {
-    let safe = job.safe();
-    println!(rt; "strips safe: {safe} of {STRIPS}, each covered by a barrier that succeeded")?;
-    let mut unwritten: usize = 0;
-    for (number, verdict) in job.verdicts().iter().enumerate() {
-        match verdict {
-            Verdict::Safe => {}
-            Verdict::Lost(fault) => {
-                print!(rt; "strip {number} may not be called safe: ")?;
-                show_refusal(rt, *fault)?;
-            }
-            Verdict::Unwritten => unwritten = unwritten.saturating_add(1),
-        }
-    }
-    println!(rt; "strips not written: {unwritten}")
-}
-
-fn show_requests(rt: HostRuntime, job: &Job<FlatDisk>) -> io::Result<()> {
-    let asked = job.asked();
-    println!(rt;
-        "requests: open {}, close {}, length {}",
-        asked.opens, asked.closes, asked.lengths
-    )?;
-    println!(rt;
-        "requests: header {}, flush {}, write {}",
-        asked.headers, asked.flushes, asked.writes
-    )?;
-    println!(rt;
-        "requests: read {}, barrier start {}, barrier end {}",
-        asked.reads, asked.starts, asked.ends
-    )
-}
-
-fn show_faults(rt: HostRuntime, job: &Job<FlatDisk>) -> io::Result<()> {
-    let met = job.met();
-    println!(rt;
-        "faults: {} short writes went on, {} interrupted writes were asked again",
-        met.short, met.interrupted
-    )?;
-    println!(rt;
-        "faults: {} barriers failed and were not asked again",
-        met.barriers
-    )
-}
-
-fn show_account(rt: HostRuntime, job: &Job<FlatDisk>, meets: bool) -> io::Result<()> {
-    show_strips(rt, job)?;
-    show_requests(rt, job)?;
-    show_faults(rt, job)?;
-    println!(rt; "last origin {}", job.origin())?;
-    if meets {
-        println!(rt; "the grid meets the contours")
-    } else {
-        println!(rt; "the grid does not meet the contours")
+impl fmt::Display for Account {
+    fn fmt<W: fmt::Write>(&self, f: &mut fmt::Formatter<W>) -> fmt::Result {
+        let job = &self.job;
+        writeln!(f, "{}\n{}\n{}", job.verdicts, job.disk.asked(), job.met)?;
+        write!(f, "last origin {}\n{}", job.origin, self.grid)
     }
 }
 
 // One sheet on a disk with this plan.
-fn roll(rt: HostRuntime, plan: Vec<u16>) -> io::Result<()> {
-    let key = match Key::new(b"roll", b"sheet-1") {
-        Ok(key) => key,
-        Err(fault) => return show_refusal(rt, fault),
-    };
-    let mut job = Job::new(FlatDisk::new(plan));
-    if let Err(fault) = job.make(&key) {
-        return show_refusal(rt, fault);
-    }
-    match job.check(&key) {
-        Ok(meets) => show_account(rt, &job, meets),
-        Err(fault) => show_refusal(rt, fault),
+fn roll(plan: Vec<u16>) -> Result<Account, Fault> {
+    let key = Key::new(b"roll", b"sheet-1")?;
+    let mut job = Job::new(Counted::new(FlatDisk::new(plan)));
+    job.make(&key)?;
+    let grid = job.check(&key)?;
+    Ok(Account { job, grid })
+}
+
+fn show(rt: &impl Print, plan: Vec<u16>) -> io::Result<()> {
+    match roll(plan) {
+        Ok(account) => println!(rt; "{account}"),
+        // What stops a roll before it has a sheet.
+        Err(fault) => println!(rt; "{}", Refused(fault)),
     }
 }
 
-// A plan of three faults: the strip 2 meets a short write, the strip 5 an interrupted one, the strip 8 a failed barrier.
-// A sheet begins with 5 requests and a strip takes 5; a short or an interrupted write takes one more.
-fn three_faults(rt: HostRuntime) -> io::Result<Vec<u16>> {
-    let mut plan = vec![in rt.alloc(); 0u16; 60]?;
-    plan[5 + 2 * 5] = 4096 + 20;
-    plan[5 + 5 * 5 + 1] = 4;
-    plan[5 + 8 * 5 + 2 + 3] = 5;
+// A job asks so much before its first strip, and so much for each: two writes, a barrier's start and end, and a read.
+const BEFORE_STRIPS: usize = 5;
+
+const PER_STRIP: usize = 5;
+
+// Where the barrier's end stands among what a strip asks.
+const BARRIER_END: usize = 3;
+
+// Longer than what is asked up to the last planned fault.
+const PLANNED: usize = 60;
+
+// An entry of LANDS + n is a write that lands n bytes.
+const LANDS: u16 = 4096;
+
+// Input or output failed.
+const EIO: u16 = 5;
+
+// The strip 2 meets a short write, the strip 5 an interrupted one, the strip 8 a failed barrier. A short or an interrupted
+// write takes one request more, so that what comes after is moved by 1, and then by 2.
+fn three_faults(alloc: Global) -> Result<Vec<u16>, AllocError> {
+    let mut plan = vec![in alloc; 0u16; PLANNED]?;
+    plan[BEFORE_STRIPS + 2 * PER_STRIP] = LANDS + 20;
+    plan[BEFORE_STRIPS + 5 * PER_STRIP + 1] = EINTR;
+    plan[BEFORE_STRIPS + 8 * PER_STRIP + 2 + BARRIER_END] = EIO;
     Ok(plan)
 }
 
 fn main(rt: HostRuntime) -> io::Result<()> {
     println!(rt; "a sheet on a disk without faults")?;
-    roll(rt, vec![in rt.alloc()]?)?;
+    show(&rt, vec![in rt.alloc()]?)?;
     println!(rt; "a sheet on a disk with three planned faults")?;
-    roll(rt, three_faults(rt)?)
+    show(&rt, three_faults(rt.alloc())?)
 }

@@ -10,7 +10,8 @@ use Rattle.rules.specs.declared.ticket.Step.{Step}
 use Rattle.rules.specs.declared.ticket.Step.TheVariants.{Write, Resize, Flush}
 use Rattle.rules.specs.declared.ticket.Writing.{Writing}
 use Rattle.rules.specs.Chunks.{batch, chunks, sizes_ok}
-use Rattle.rules.specs.State.{Opening, State, with_ticket, with_given, with_tracker, with_mutations, with_syncs, with_out}
+use Rattle.rules.specs.declared.opening.Opening.{Opening}
+use Rattle.rules.specs.State.{State, with_ticket, with_given, with_tracker, with_mutations, with_syncs, with_out}
 use Rattle.rules.specs.Track.{begun, is_dirty, up}
 use Rattle.rules.specs.Tree.{Prog, done}
 use Rattle.rules.specs.Ends.{change}
@@ -69,7 +70,7 @@ abbrev pub is_fused : Options → List ℕ → Bool
 is_fused x lengths = x.sync && nat_le (chunks lengths) batch
 
 abbrev pub writing : Opening → ℕ → ℕ → List ℕ → Options → Writing
-writing o place size lengths x = record { offset = record { 0 = place + o.account.offset }; length = size; chunks = chunks lengths; fused = is_fused x lengths; sync = x.sync; hinted = x.nocache }
+writing o place size lengths x = record { offset = place + o.account.offset; length = size; chunks = chunks lengths; fused = is_fused x lengths; sync = x.sync; hinted = x.nocache }
 
 -- the refusals of a body that has bytes, after 3 and the sum of the offsets
 abbrev pub kept_refusal : Bool → Opening → Option Fault
@@ -114,7 +115,7 @@ resize_refused s o size =
 
 abbrev pub resize_begun : State → ℕ → Opening → ℕ → Option Fault → Result ℕ Fault × State
 resize_begun s n o size (Some f) = (Err f, s)
-resize_begun s n o size None = (Ok (new_ticket s), give s n (Resize (record { 0 = size + o.account.offset })) (mutation_begun false))
+resize_begun s n o size None = (Ok (new_ticket s), give s n (Resize (size + o.account.offset)) (mutation_begun false))
 
 abbrev pub resize_rule : State → ℕ → ℕ → Prog (Result ℕ Fault × State)
 resize_rule s n size = at_stage s blob_stage (λ o. done (resize_begun s n o size (resize_refused s o size))) (s.openings.at n)

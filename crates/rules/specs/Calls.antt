@@ -2,9 +2,10 @@
 use Rattle.std.specs.Prelude.{ℕ, Bool, cond, ◌||◌, List, length, Ok, Err, Result, ◌==◌}
 use Rattle.faults.specs.Numbers.{number}
 use Rattle.faults.specs.declared.store.Fault.{Fault}
-use Rattle.keys.specs.Keys.{KeyName}
+use Rattle.keys.specs.KeyName.{KeyName}
 use Rattle.rules.specs.declared.opening.Mode.{Mode}
-use Rattle.rules.specs.State.{Opening, State}
+use Rattle.rules.specs.declared.opening.Opening.{Opening}
+use Rattle.rules.specs.State.{State}
 use Rattle.rules.specs.Tree.{Prog}
 use Rattle.rules.specs.Opens.{Opened, open_rule}
 use Rattle.rules.specs.Finishes.{owing_stage, blob_stage, finish_rule, give_up_rule, close_rule}

@@ -6,7 +6,8 @@ use Rattle.rules.specs.declared.opening.Account.{Account}
 use Rattle.rules.specs.declared.opening.Stage.TheVariants.{Ended}
 use Rattle.rules.specs.declared.pending.Entry.{Entry}
 use Rattle.rules.specs.declared.tracker.Tracker.{Tracker}
-use Rattle.rules.specs.State.{Opening, State, with_name, with_opening, with_ticket, with_account, with_stage, with_out, is_ended}
+use Rattle.rules.specs.declared.opening.Opening.{Opening}
+use Rattle.rules.specs.State.{State, with_name, with_opening, with_ticket, with_account, with_stage, with_out, is_ended}
 use Rattle.rules.specs.Track.{first, is_dirty}
 use Rattle.rules.specs.Tree.{Prog, done, ask}
 

@@ -2,11 +2,9 @@
 -- flushes. Assumes nothing.
 use Rattle.std.specs.Prelude.{ℕ, ◌+◌, Bool, true, false, cond, not, ◌&&◌, List, [], ◌∷◌, ◌++◌, Some, None, Ok, Err, Option, Result, ◌==◌}
 use Rattle.faults.specs.Numbers.{number}
-use Rattle.faults.specs.declared.disk.OpenFault.{OpenFault}
-use Rattle.faults.specs.declared.disk.UnbindFault.{UnbindFault}
-use Rattle.faults.specs.declared.disk.WriteFault.{WriteFault}
+use Rattle.faults.specs.Kinds.{OpenFault, WriteFault, UnbindFault}
 use Rattle.faults.specs.declared.store.Fault.{Fault}
-use Rattle.keys.specs.Keys.{KeyName}
+use Rattle.keys.specs.KeyName.{KeyName}
 use Rattle.disk.specs.Files.{DiskState, FileState}
 use Rattle.disk.specs.Paths.{durable}
 use Rattle.disk.specs.Requests.{Request, Answer, ask_open, ask_close, ask_length, ask_read, ask_write, ask_resize, ask_start, ask_end, ask_header, ask_flush_directory, ask_flush_root, ask_unbind, ask_unbind_partition}
@@ -17,7 +15,8 @@ use Rattle.rules.specs.declared.ticket.Step.TheVariants.{Write, Resize, Flush, R
 use Rattle.rules.specs.declared.ticket.Ticket.{Ticket}
 use Rattle.rules.specs.Submissions.{Transfer, Outcome, Submits, all, more, stuck, again, worn, unhinted, broken, path}
 use Rattle.rules.specs.Chunks.{next_bytes}
-use Rattle.rules.specs.State.{Opening, State}
+use Rattle.rules.specs.declared.opening.Opening.{Opening}
+use Rattle.rules.specs.State.{State}
 use Rattle.rules.specs.Tree.{Prog, done, ask, submit, Runs}
 use Rattle.rules.specs.Opens.{Opened, blob, owing, new_number}
 use Rattle.rules.specs.Begins.{Begun, ticket, nothing, is_fused, Syncing, counted, skipped}

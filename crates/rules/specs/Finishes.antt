@@ -2,18 +2,18 @@
 use Rattle.std.specs.Prelude.{ℕ, ◌-◌, Bool, false, cond, Some, None, Ok, Err, Option, Result, ◌==◌, nat_le, nat_lt}
 use Rattle.std.specs.Option.{option_map}
 use Rattle.faults.specs.Numbers.{refusal}
-use Rattle.faults.specs.declared.disk.FlushFault.{FlushFault}
-use Rattle.faults.specs.declared.disk.LengthFault.{LengthFault}
+use Rattle.faults.specs.Kinds.{FlushFault, LengthFault}
 use Rattle.faults.specs.declared.store.Fault.{Fault}
 use Rattle.faults.specs.declared.store.Fault.TheVariants.{BlobSyncFailed, ReadFailed, Unsettled, Unknown}
 use Rattle.faults.specs.declared.store.Failure.{Failure}
 use Rattle.faults.specs.declared.store.Failure.TheVariants.{Sync}
-use Rattle.keys.specs.Keys.{KeyName}
+use Rattle.keys.specs.KeyName.{KeyName}
 use Rattle.disk.specs.Requests.{ask_length, ask_start, ask_end}
 use Rattle.rules.specs.declared.opening.Account.{Account}
 use Rattle.rules.specs.declared.opening.Stage.TheVariants.{Blob}
 use Rattle.rules.specs.declared.pending.Entry.{Entry}
-use Rattle.rules.specs.State.{Opening, State, with_name, with_stage, with_tracker, is_blob, is_owing}
+use Rattle.rules.specs.declared.opening.Opening.{Opening}
+use Rattle.rules.specs.State.{State, with_name, with_stage, with_tracker, is_blob, is_owing}
 use Rattle.rules.specs.Track.{poisoned}
 use Rattle.rules.specs.Tree.{Prog, done, ask}
 use Rattle.rules.specs.Ends.{change, end_rule}

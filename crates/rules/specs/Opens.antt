@@ -2,14 +2,12 @@
 use Rattle.std.specs.Prelude.{ℕ, ◌+◌, ◌-◌, Bool, true, false, cond, ◌&&◌, ◌||◌, List, length, is_some, Some, None, Ok, Err, Option, Result, ◌==◌, nat_le, nat_lt}
 use Rattle.std.specs.Option.{option_map}
 use Rattle.faults.specs.Numbers.{refusal}
-use Rattle.faults.specs.declared.disk.OpenFault.{OpenFault}
-use Rattle.faults.specs.declared.disk.WriteFault.{WriteFault}
-use Rattle.faults.specs.declared.disk.LengthFault.{LengthFault}
+use Rattle.faults.specs.Kinds.{OpenFault, WriteFault, LengthFault}
 use Rattle.faults.specs.declared.store.Fault.{Fault}
 use Rattle.faults.specs.declared.store.Fault.TheVariants.{PartitionNameInvalid, BlobNameInvalid, TooLarge, Full, Exhausted, BlobAlreadyOpen, Io, ReadFailed, BlobOpenFailed}
 use Rattle.faults.specs.declared.store.Failure.{Failure}
 use Rattle.faults.specs.declared.store.Failure.TheVariants.{Header}
-use Rattle.keys.specs.Keys.{KeyName}
+use Rattle.keys.specs.KeyName.{KeyName}
 use Rattle.keys.specs.Names.{partition_ok, name_ok}
 use Rattle.table.specs.Maps.{taken}
 use Rattle.disk.specs.Requests.{ask_open, ask_close, ask_length, ask_header, ask_flush_directory, ask_flush_root}

@@ -1,12 +1,12 @@
 -- The durability promise: what covered, forgotten and same file mean, and the three claims. Assumes nothing.
 use Rattle.std.specs.Prelude.{◌≡◌, ℕ, ◌<◌, ◌≤◌, Bool, true, ◌⊎◌, ◌↔◌, List, [], ◌∷◌, length, Some}
-use Rattle.keys.specs.Keys.{KeyName}
+use Rattle.keys.specs.KeyName.{KeyName, in_partition}
 use Rattle.disk.specs.Files.{DiskState, FileState}
 use Rattle.disk.specs.Requests.{Request, Answer}
-use Rattle.disk.specs.Rules.{in_partition}
 use Rattle.rules.specs.declared.opening.Mode.{Mode}
 use Rattle.rules.specs.declared.opening.Mode.TheVariants.{Existing}
-use Rattle.rules.specs.State.{Opening, State}
+use Rattle.rules.specs.declared.opening.Opening.{Opening}
+use Rattle.rules.specs.State.{State}
 use Rattle.rules.specs.Events.{Forgotten, one, all_in, Item, now_disk, forgot, admitted, yielded, begun, finished, landed, spoilt, flush_counted, flush_succeeded, flush_failed, sync_skipped}
 use Rattle.rules.specs.History.{History}
 

@@ -1,15 +1,13 @@
 -- Remove, of a name and of a partition. Assumes nothing.
 use Rattle.std.specs.Prelude.{ℕ, cond, List, Some, None, Ok, Err, Option, Result, ◌==◌}
 use Rattle.faults.specs.Numbers.{code}
-use Rattle.faults.specs.declared.disk.UnbindFault.{UnbindFault}
-use Rattle.faults.specs.declared.disk.WriteFault.{WriteFault}
+use Rattle.faults.specs.Kinds.{WriteFault, UnbindFault}
 use Rattle.faults.specs.declared.store.Fault.{Fault}
 use Rattle.faults.specs.declared.store.Fault.TheVariants.{PartitionNameInvalid, BlobNameInvalid, Io, BlobMissing, PartitionMissing}
-use Rattle.keys.specs.Keys.{KeyName}
+use Rattle.keys.specs.KeyName.{KeyName, in_partition}
 use Rattle.keys.specs.Names.{partition_ok, name_ok}
 use Rattle.table.specs.Maps.{without}
 use Rattle.disk.specs.Requests.{ask_unbind, ask_unbind_partition, ask_flush_directory, ask_flush_root}
-use Rattle.disk.specs.Rules.{in_partition}
 use Rattle.rules.specs.State.{State, with_name, with_names}
 use Rattle.rules.specs.Tree.{Prog, done, ask}
 use Rattle.rules.specs.Opens.{unless}

@@ -1,18 +1,14 @@
 -- What a store holds besides its disk. Assumes nothing.
 use Rattle.std.specs.Prelude.{ℕ, Bool, true, false, Option, nat_eq}
-use Rattle.keys.specs.Keys.{KeyName, same_key}
+use Rattle.keys.specs.KeyName.{KeyName, same_key}
 use Rattle.table.specs.Maps.{Map, put, none}
 use Rattle.rules.specs.declared.opening.Account.{Account}
+use Rattle.rules.specs.declared.opening.Opening.{Opening}
 use Rattle.rules.specs.declared.opening.Stage.{Stage}
 use Rattle.rules.specs.declared.opening.Stage.TheVariants.{Owing, Blob, Ended}
 use Rattle.rules.specs.declared.pending.Entry.{Entry}
 use Rattle.rules.specs.declared.ticket.Ticket.{Ticket}
 use Rattle.rules.specs.declared.tracker.Tracker.{Tracker}
-
--- an opening: the key that it opened, and its account
-pub record Opening : Type 0 where
-  pub key : KeyName
-  pub account : Account
 
 -- the entries of names, the openings and the tickets that have a place, and how many openings and tickets there ever were
 pub record State : Type 0 where

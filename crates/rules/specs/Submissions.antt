@@ -3,7 +3,7 @@ use Rattle.std.specs.Prelude.{◌≡◌, ℕ, ◌+◌, ◌<◌, ◌≤◌, Bool,
 use Rattle.faults.specs.Numbers.{code}
 use Rattle.faults.specs.declared.disk.DiskFault.{DiskFault}
 use Rattle.faults.specs.declared.disk.DiskFault.TheVariants.{Code}
-use Rattle.faults.specs.declared.disk.WriteFault.{WriteFault}
+use Rattle.faults.specs.Kinds.{WriteFault}
 use Rattle.faults.specs.declared.store.Fault.{Fault}
 use Rattle.faults.specs.declared.store.Fault.TheVariants.{Io, WriteFailed}
 use Rattle.faults.specs.declared.store.Failure.{Failure}

@@ -2,13 +2,11 @@
 use Rattle.std.specs.Prelude.{ℕ, Bool, true, false, cond, not, ◌&&◌, ◌||◌, List, length, Some, None, Ok, Err, Option, Result, ◌==◌, nat_le}
 use Rattle.faults.specs.Numbers.{refusal}
 use Rattle.faults.specs.declared.disk.DiskFault.TheVariants.{Code}
-use Rattle.faults.specs.declared.disk.FlushFault.{FlushFault}
-use Rattle.faults.specs.declared.disk.ResizeFault.{ResizeFault}
+use Rattle.faults.specs.Kinds.{FlushFault, ResizeFault}
 use Rattle.faults.specs.declared.store.Fault.{Fault}
 use Rattle.faults.specs.declared.store.Fault.TheVariants.{BlobSyncFailed, BlobResizeFailed, Flushing, Unknown, Mismatched}
 use Rattle.faults.specs.declared.store.Failure.{Failure}
 use Rattle.faults.specs.declared.store.Failure.TheVariants.{Sync}
-use Rattle.disk.specs.Offsets.{place}
 use Rattle.disk.specs.Requests.{ask_resize, ask_start, ask_end}
 use Rattle.disk.specs.declared.offset.FileOffset.{FileOffset}
 use Rattle.rules.specs.declared.opening.Account.{Account}
@@ -18,7 +16,8 @@ use Rattle.rules.specs.declared.ticket.Ticket.{Ticket}
 use Rattle.rules.specs.declared.ticket.Writing.{Writing}
 use Rattle.rules.specs.Chunks.{chunks, sizes_ok}
 use Rattle.rules.specs.Submissions.{Transfer, Outcome, landed, lost, Loss, loss_refusal, loss_failure}
-use Rattle.rules.specs.State.{Opening, State, with_ticket, with_tracker, with_hinting, with_flushing}
+use Rattle.rules.specs.declared.opening.Opening.{Opening}
+use Rattle.rules.specs.State.{State, with_ticket, with_tracker, with_hinting, with_flushing}
 use Rattle.rules.specs.Track.{begun, finished, credited, poisoned, up}
 use Rattle.rules.specs.Tree.{Prog, done, ask, submit}
 use Rattle.rules.specs.Ends.{change, spend_rule}
@@ -69,7 +68,7 @@ abbrev pub live_hint : Account → Writing → Bool
 live_hint a w = w.hinted && a.hinting
 
 abbrev pub transfer : Account → Writing → List ℕ → List ℕ → Transfer
-transfer a w body lengths = record { file = a.file; offset = place w.offset; body = body; lengths = lengths; single = w.chunks == 1 && (not w.sync && not (live_hint a w)); durably = w.fused }
+transfer a w body lengths = record { file = a.file; offset = w.offset; body = body; lengths = lengths; single = w.chunks == 1 && (not w.sync && not (live_hint a w)); durably = w.fused }
 
 -- a hint that was live and is no more is dropped for the opening
 abbrev pub hint_after : Bool → Bool → Account → Account
@@ -120,7 +119,7 @@ resize_answered s t n (Err e) = spend_rule s t n (Err (BlobResizeFailed e.0))
 -- past the largest offset of a file the disk is not asked
 abbrev pub run_resize : State → ℕ → ℕ → Account → FileOffset → Prog Out
 run_resize s t n a end =
-    cond (nat_le (place end) last_offset) (ask (ask_resize a.file (place end)) (resize_answered s t n)) (spend_rule s t n (Err (BlobResizeFailed (Code 22))))
+    cond (nat_le end last_offset) (ask (ask_resize a.file end) (resize_answered s t n)) (spend_rule s t n (Err (BlobResizeFailed (Code 22))))
 
 abbrev pub unless_mismatched : {R : Type 0} → State → Bool → Prog (Result R Fault × State) → Prog (Result R Fault × State)
 unless_mismatched s ok rest = cond ok rest (done (Err Mismatched, s))

@@ -6,7 +6,7 @@ pub mod pending;
 pub mod ticket;
 pub mod tracker;
 
-pub use opening::{Account, Mode, Stage};
+pub use opening::{Account, Mode, Opening, Stage};
 pub use pending::{Entry, is_owing, waited_for};
 pub use ticket::{Step, Ticket, Writing};
 pub use tracker::Tracker;

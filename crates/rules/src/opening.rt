@@ -3,15 +3,16 @@ ghost use Rattle.std.specs.Prelude.{◌≡◌};
 ghost use Rattle.rules.specs.State.{is_blob, is_ended, is_owing};
 
 use crate::tracker::Tracker;
+use keys::Key;
 
 // Whether the name has a header already.
-#[derive(Clone, Copy)]
+#[derive(Clone, Copy, PartialEq, Eq, Debug)]
 pub enum Mode {
     Existing,
     Fresh,
 }
 
-#[derive(Clone, Copy)]
+#[derive(Clone, Copy, PartialEq, Eq, Debug)]
 pub enum Stage {
     // It has to be finished first: an earlier opening left something unflushed.
     Owing,
@@ -21,37 +22,29 @@ pub enum Stage {
     Ended,
 }
 
+// Three questions, as the rules ask them; one by a value would say no more than `==`.
 impl Stage {
     pub fn is_owing(self) -> bool
         ensures { result ≡ is_owing self }
     {
-        match self {
-            Stage::Owing => true,
-            Stage::Blob | Stage::Ended => false,
-        }
+        matches!(self, Stage::Owing)
     }
 
     pub fn is_blob(self) -> bool
         ensures { result ≡ is_blob self }
     {
-        match self {
-            Stage::Blob => true,
-            Stage::Owing | Stage::Ended => false,
-        }
+        matches!(self, Stage::Blob)
     }
 
     pub fn is_ended(self) -> bool
         ensures { result ≡ is_ended self }
     {
-        match self {
-            Stage::Ended => true,
-            Stage::Owing | Stage::Blob => false,
-        }
+        matches!(self, Stage::Ended)
     }
 }
 
 // What an opening has besides its key.
-#[derive(Clone, Copy)]
+#[derive(Clone, Copy, PartialEq, Eq, Debug)]
 pub struct Account {
     pub file: u64,
     // Where the blob's data begin in the file.
@@ -71,4 +64,11 @@ pub struct Account {
     // Syncs begun: skipped, or given a ticket.
     pub syncs: u64,
     pub skipped: u64,
+}
+
+// An opening: the key that it opened, and its account.
+#[derive(Clone, Copy, PartialEq, Eq, Debug)]
+pub struct Opening {
+    pub key: Key,
+    pub account: Account,
 }

@@ -1,5 +1,6 @@
 // What a name remembers between its openings.
 ghost use Rattle.std.specs.Prelude.{◌≡◌};
+ghost use Rattle.std.specs.Result.{result_err};
 ghost use Rattle.rules.specs.Ends.{clear, registered, settled, unless_free_if};
 ghost use Rattle.rules.specs.Opens.{barred_while, waits, soiled, owes, new_entry, failing};
 ghost use Rattle.rules.specs.Finishes.{cleaned};
@@ -7,7 +8,7 @@ ghost use Rattle.rules.specs.Finishes.{cleaned};
 use crate::tracker::Tracker;
 use faults::{Failure, Fault};
 
-#[derive(Clone, Copy)]
+#[derive(Clone, Copy, PartialEq, Eq, Debug)]
 pub struct Entry {
     // The latest opening of the name.
     pub opening: u64,
@@ -23,19 +24,13 @@ pub struct Entry {
 pub fn waited_for(was: &Option<Entry>) -> Option<u64>
     ensures { result ≡ waits was.now }
 {
-    match was {
-        Some(entry) => entry.unsettled,
-        None => None,
-    }
+    was.and_then(|entry| entry.unsettled)
 }
 
 fn is_soiled(was: &Option<Entry>) -> bool
     ensures { result ≡ soiled was.now }
 {
-    match was {
-        Some(entry) => entry.dirty,
-        None => false,
-    }
+    was.is_some_and(|entry| entry.dirty)
 }
 
 // Whether a new opening has to be finished before its file is trusted.
@@ -58,17 +53,14 @@ impl Entry {
         }
     }
 
-    // Why the name is not opened again: its opening has not ended, or a failure is kept.
-    pub fn bar(&self, lives: bool) -> Option<Fault>
-        ensures { result ≡ barred_while lives self.now }
+    // Refuses a second opening of the name while its opening has not ended, and then with the failure that is kept.
+    pub fn bar(&self, lives: bool) -> Result<(), Fault>
+        ensures { result_err result ≡ barred_while lives self.now }
     {
         if lives {
-            return Some(Fault::BlobAlreadyOpen);
+            return Err(Fault::BlobAlreadyOpen);
         }
-        match self.failure {
-            Some(failure) => Some(failure.into()),
-            None => None,
-        }
+        self.failure.map_or(Ok(()), |failure| Err(failure.into()))
     }
 
     // Whether the entry carries nothing that a later opening must observe.
@@ -79,38 +71,25 @@ impl Entry {
     }
 
     // An ended opening registers while the entry is its own and no earlier opening is still settling.
-    pub fn register(self, opening: u64) -> Entry
+    pub fn register(mut self, opening: u64) -> Entry
         ensures { result ≡ registered opening self }
     {
-        if self.opening == opening && self.unsettled.is_none() {
-            Entry {
-                unsettled: Some(opening),
-                ..self
-            }
-        } else {
-            self
+        if self.opening == opening {
+            self.unsettled.get_or_insert(opening);
         }
+        self
     }
 
     // Once an opening that the entry waits for has no ticket out, its debt and its failure are taken over.
-    pub fn settle(self, opening: u64, tracker: &Tracker) -> Entry
+    pub fn settle(mut self, opening: u64, tracker: &Tracker) -> Entry
         ensures { result ≡ settled opening tracker.now self }
     {
-        match self.unsettled {
-            Some(waited) if waited == opening => {
-                let failure = match tracker.failure {
-                    Some(failure) => Some(failure),
-                    None => self.failure,
-                };
-                Entry {
-                    opening: self.opening,
-                    unsettled: None,
-                    dirty: self.dirty || tracker.written != tracker.synced,
-                    failure,
-                }
-            }
-            _ => self,
+        if self.unsettled == Some(opening) {
+            self.unsettled = None;
+            self.dirty |= tracker.is_dirty();
+            self.failure = tracker.failure.or(self.failure);
         }
+        self
     }
 
     // None where nothing is left to remember: the entry is clear and its opening has ended.
@@ -125,28 +104,22 @@ impl Entry {
     }
 
     // An opening has flushed the debt, and clears it while the entry is still its own.
-    pub fn clear(self, opening: u64) -> Entry
+    pub fn clear(mut self, opening: u64) -> Entry
         ensures { result ≡ cleaned opening self }
     {
-        if self.opening != opening {
-            return self;
+        if self.opening == opening {
+            self.dirty = false;
         }
-        Entry {
-            dirty: false,
-            ..self
-        }
+        self
     }
 
     // An opening's failure is kept, while the entry is still its own, until the name is forgotten.
-    pub fn fail(self, opening: u64, failure: Failure) -> Entry
+    pub fn fail(mut self, opening: u64, failure: Failure) -> Entry
         ensures { result ≡ failing opening failure self }
     {
-        if self.opening != opening {
-            return self;
+        if self.opening == opening {
+            self.failure = Some(failure);
         }
-        Entry {
-            failure: Some(failure),
-            ..self
-        }
+        self
     }
 }

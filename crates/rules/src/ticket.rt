@@ -2,7 +2,7 @@
 use disk::FileOffset;
 
 // A write as it was begun; the body stays with the caller.
-#[derive(Clone, Copy)]
+#[derive(Clone, Copy, PartialEq, Eq, Debug)]
 pub struct Writing {
     pub offset: FileOffset,
     pub length: u64,
@@ -15,18 +15,18 @@ pub struct Writing {
     pub hinted: bool,
 }
 
-#[derive(Clone, Copy)]
+#[derive(Clone, Copy, PartialEq, Eq, Debug)]
 pub enum Step {
     Write(Writing),
     // The file is to end there.
     Resize(FileOffset),
     // A flush that has counted so many finished mutations.
     Flush(u64),
-    // A flush that runs: what it has counted, and the barrier's mark.
+    // A flush that runs: what it has counted, and the barrier's mark, in the order of the rules.
     Running(u64, u64),
 }
 
-#[derive(Clone, Copy)]
+#[derive(Clone, Copy, PartialEq, Eq, Debug)]
 pub struct Ticket {
     pub opening: u64,
     pub step: Step,

@@ -4,7 +4,7 @@ ghost use Rattle.rules.specs.Track.{begun, credited, finished, is_dirty, poisone
 
 use faults::Failure;
 
-#[derive(Clone, Copy)]
+#[derive(Clone, Copy, PartialEq, Eq, Debug, Default)]
 pub struct Tracker {
     // Counted mutations begun.
     pub written: u64,
@@ -20,32 +20,21 @@ impl Tracker {
     pub fn new() -> Tracker
         ensures { result ≡ untouched }
     {
-        Tracker {
-            written: 0,
-            completed: 0,
-            synced: 0,
-            failure: None,
-        }
+        Tracker::default()
     }
 
     // Record a mutation that needs a successful flush.
     pub fn write(&mut self)
         ensures { self.new ≡ begun self.old }
     {
-        *self = Tracker {
-            written: self.written.saturating_add(1),
-            ..*self
-        };
+        self.written = self.written.saturating_add(1);
     }
 
     // Count a mutation that has landed whole.
     pub fn complete(&mut self)
         ensures { self.new ≡ finished self.old }
     {
-        *self = Tracker {
-            completed: self.completed.saturating_add(1),
-            ..*self
-        };
+        self.completed = self.completed.saturating_add(1);
     }
 
     // The finished mutations that a flush about to start will cover.
@@ -59,9 +48,7 @@ impl Tracker {
     pub fn end_sync(&mut self, seen: u64)
         ensures { self.new ≡ credited self.old seen }
     {
-        if self.synced < seen {
-            self.synced = seen;
-        }
+        self.synced = self.synced.max(seen);
     }
 
     // Whether a mutation was begun that no successful flush covers.
@@ -75,10 +62,7 @@ impl Tracker {
     pub fn poison(&mut self, failure: Failure)
         ensures { self.new ≡ poisoned self.old failure }
     {
-        match self.failure {
-            Some(_) => {}
-            None => self.failure = Some(failure),
-        }
+        self.failure.get_or_insert(failure);
     }
 
     // The failure that is kept.

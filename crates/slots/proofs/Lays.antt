@@ -1,7 +1,7 @@
 -- What the writes to a slot's memory come to. Assumes nothing.
-use Rattle.std.proofs.Common.{◌≡◌, ℕ, ◌+◌, ◌-◌, ◌<◌, ◌≤◌, max, Bool, true, false, List, ◌++◌, length, get_or, take, drop, replicate, sym, refl, ap, ◌∙◌, inl, inr, arith}
+use Rattle.std.proofs.Common.{◌≡◌, ℕ, ◌+◌, ◌-◌, ◌<◌, ◌≤◌, max, Bool, true, false, List, ◌++◌, length, get_or, take, replicate, sym, ap, ◌∙◌, inl, inr, arith}
 use lib.Seq.{paste}
-use Rattle.std.proofs.lemmas.List.{length-append, length-take, length-replicate, get_or_append_left, get_or-append_right, get_or-take, get_or-drop, get_or_past, get_or-replicate, ext_get_or, take_all, take_at}
+use Rattle.std.proofs.lemmas.List.{length-append, length-take, length-replicate, get_or_append_left, get_or-append_right, get_or-take, get_or-drop, get_or_past, get_or-replicate, ext_get_or}
 use Rattle.std.proofs.lemmas.List.Edits.{length-paste}
 use Rattle.std.proofs.lemmas.Bool.{cases_lt}
 use Rattle.disk.specs.Laid.{sized, laid}
@@ -86,8 +86,3 @@ pub written_none : (x : FileState) (at : ℕ) (given : List ℕ) (durable : Bool
 unfolding laid
 written_none x at given true c e = ap (λ m. written x at given true m) e
 written_none x at given false c e = ap (λ m. written x at given false m) e
-
--- what is laid at the start is what stands there
-pub head_is : (d b : List ℕ) → take (length b) (paste d 0 b (length b)) ≡ b
-head_is d b =
-    ap (λ l. take (length b) (l ++ drop (0 + length b) d)) (take_all (length b) b (omega arith)) ∙ take_at b (drop (0 + length b) d) (length b) refl

@@ -1,24 +1,14 @@
 -- What a read copies. Assumes nothing.
-use Rattle.std.proofs.Common.{◌≡◌, ℕ, ◌+◌, ◌-◌, ◌≤◌, min, List, ◌++◌, length, take, drop, sym, ap, ◌∙◌, inl, inr, zero-add, arith}
-use lib.Seq.{paste}
-use Rattle.std.proofs.lemmas.List.{length-take, length-drop, take_all, take_at, drop_at}
+use Rattle.std.proofs.Common.{◌≡◌, ℕ, ◌-◌, ◌≤◌, min, List, ◌++◌, length, take, drop, sym, ap, ◌∙◌, inl, inr, arith}
+use Rattle.std.proofs.lemmas.List.{length-take, length-drop, take_all, take_at}
 use Rattle.std.proofs.lemmas.Bool.{cases_lt}
 
 part_length : (all : List ℕ) (at n : ℕ) → n ≤ length all - at → length (take n (drop at all)) ≡ n
 part_length all at n h = let e = length-drop at all in length-take n (drop at all) ∙ omega arith
 
-pub out_is : (all into : List ℕ) (at n m : ℕ) → n ≤ length all - at → m ≡ n → paste into 0 (take m (drop at all)) (length (take m (drop at all))) ≡ take n (drop at all) ++ drop n into
-out_is all into at n m h e =
-    ap (λ j. paste into 0 (take j (drop at all)) (length (take j (drop at all)))) e
-    ∙ ap (λ l. l ++ drop (0 + length (take n (drop at all))) into) (take_all (length (take n (drop at all))) (take n (drop at all)) (omega arith))
-    ∙ ap (λ j. take n (drop at all) ++ drop j into) (zero-add _ ∙ part_length all at n h)
-
 module _ (all into : List ℕ) (at n : ℕ) (e : n ≡ min (length into) (length all - at)) where
   within : length (take n (drop at all)) ≡ n
   within = part_length all at n (omega arith)
-
-  pub out_spares : (after : List ℕ) → after ≡ take n (drop at all) ++ drop n into → drop n after ≡ drop n into
-  out_spares after f = ap (drop n) f ∙ drop_at (take n (drop at all)) (drop n into) n within
 
   cut : take n (drop at all) ≡ take (length into) (drop at all)
   cut =

@@ -1,16 +1,18 @@
 -- What one file answers to a request, and what it is then. Assumes nothing.
-use Rattle.std.specs.Prelude.{ℕ, ◌-◌, min, Bool, cond, not, ◌&&◌, ◌||◌, List, Some, None, Ok, Err, Option, Result, ◌==◌, nat_le, nat_lt}
-use Rattle.faults.specs.declared.disk.WriteFault.{WriteFault}
-use Rattle.faults.specs.declared.disk.FlushFault.{FlushFault}
-use Rattle.faults.specs.declared.disk.ResizeFault.{ResizeFault}
-use Rattle.disk.specs.Files.{FileState}
+use Rattle.std.specs.Prelude.{ℕ, ◌+◌, ◌-◌, min, Bool, cond, not, ◌&&◌, ◌||◌, List, Some, None, Ok, Err, Option, Result, ◌==◌, nat_le, nat_lt}
+use Rattle.faults.specs.Kinds.{OpenFault, WriteFault, FlushFault, ResizeFault, failed}
+use Rattle.disk.specs.Files.{FileState, with_holds}
 use Rattle.disk.specs.Rules.{written, resized, reached, headed}
-use Rattle.slots.specs.Codes.{write_fault, resize_fault, no_room}
+use Rattle.slots.specs.Codes.{no_room}
 
 -- the file, if it is held
 abbrev pub held : Option FileState → Option FileState
 held None = None
 held (Some x) = cond (nat_lt 0 x.holds) (Some x) None
+
+-- the file with other bytes
+abbrev pub with_bytes : FileState → List ℕ → FileState
+with_bytes x b = record { key = x.key; bytes = b; n = x.n; k = x.k; holds = x.holds }
 
 -- 2^40 mutations have landed: no more are counted
 abbrev pub full : FileState → Bool
@@ -26,7 +28,7 @@ write_refused x at m durably limit = (nat_lt 0 m && fits at m == 0) || (nat_lt 0
 
 -- a write of m bytes answers how many land: those that fit, and at most `limit`
 abbrev pub write_answer : ℕ → ℕ → Bool → ℕ → FileState → Result ℕ WriteFault
-write_answer at m durably limit x = cond (write_refused x at m durably limit) (Err (write_fault no_room)) (Ok (min (fits at m) limit))
+write_answer at m durably limit x = cond (write_refused x at m durably limit) (Err (failed no_room)) (Ok (min (fits at m) limit))
 
 -- these are laid, and counted unless they are durable; a fault leaves the file
 abbrev pub after_write : ℕ → List ℕ → Bool → FileState → Result ℕ WriteFault → FileState
@@ -35,7 +37,7 @@ after_write at given durably x (Err e) = x
 
 -- a resize is refused past 4,096 bytes, and where no mutation can be counted
 abbrev pub resize_answer : ℕ → FileState → Result (Unit {0}) ResizeFault
-resize_answer end x = cond (nat_lt 4096 end || full x) (Err (resize_fault no_room)) (Ok tt)
+resize_answer end x = cond (nat_lt 4096 end || full x) (Err (failed no_room)) (Ok tt)
 
 -- the file cut or extended; a fault leaves it
 abbrev pub after_resize : ℕ → FileState → Result (Unit {0}) ResizeFault → FileState
@@ -44,7 +46,7 @@ after_resize end x (Err e) = x
 
 -- so is a header of m bytes
 abbrev pub header_answer : ℕ → FileState → Result (Unit {0}) WriteFault
-header_answer m x = cond (nat_lt 4096 m || full x) (Err (write_fault no_room)) (Ok tt)
+header_answer m x = cond (nat_lt 4096 m || full x) (Err (failed no_room)) (Ok tt)
 
 -- the header's bytes, all covered; a fault leaves the file
 abbrev pub after_header : List ℕ → FileState → Result (Unit {0}) WriteFault → FileState
@@ -59,3 +61,12 @@ end_answer x = Ok tt
 abbrev pub after_end : ℕ → FileState → Result (Unit {0}) FlushFault → FileState
 after_end mark x (Ok u) = reached x mark
 after_end mark x (Err e) = x
+
+-- one hold more is refused at 2^40
+abbrev pub hold_answer : FileState → Result (Unit {0}) OpenFault
+hold_answer x = cond (nat_le 1099511627776 x.holds) (Err (failed no_room)) (Ok tt)
+
+-- the file held once more; a fault leaves it
+abbrev pub after_hold : FileState → Result (Unit {0}) OpenFault → FileState
+after_hold x (Ok u) = with_holds x (x.holds + 1)
+after_hold x (Err e) = x

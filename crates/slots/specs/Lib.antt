@@ -1,4 +1,3 @@
-pub mod Slots
 pub mod Told
 pub mod Views
 pub mod Plans

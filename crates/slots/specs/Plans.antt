@@ -1,12 +1,13 @@
 -- The plan of a flat disk, and what an entry plans. Assumes nothing.
-use Rattle.std.specs.Prelude.{ℕ, ◌-◌, Bool, cond, not, ◌&&◌, List, drop, Some, None, Ok, Err, vec_items, Option, Result, ◌==◌, nat_le, nat_lt, slice_index}
+use Rattle.std.specs.Prelude.{ℕ, ◌-◌, Bool, cond, not, ◌&&◌, List, Some, None, Ok, Err, Option, Result, ◌==◌, nat_le, nat_lt, slice_index}
+use Rattle.std.specs.Vec.Iter.{into_iter_items}
 use Rattle.faults.specs.declared.disk.DiskFault.{DiskFault}
 use Rattle.faults.specs.declared.disk.DiskFault.TheVariants.{Code}
 use Rattle.slots.specs.declared.plan.Plan.{Plan}
 
 -- the entries that are left
 abbrev pub rest : Plan → List ℕ
-rest p = drop p.next (vec_items p.entries)
+rest p = into_iter_items p.entries
 
 -- the next of them, which is 0 past the end
 abbrev pub first : List ℕ → ℕ

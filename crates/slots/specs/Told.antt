@@ -1,6 +1,6 @@
 -- Which keys are told, and how a file loses one. Assumes nothing.
 use Rattle.std.specs.Prelude.{Bool, false, cond, Some, None, Option}
-use Rattle.keys.specs.Keys.{KeyName}
+use Rattle.keys.specs.KeyName.{KeyName}
 use Rattle.disk.specs.Files.{FileState, with_key}
 
 -- whether a key is told

@@ -1,6 +1,6 @@
 -- What a view shows of a file. Assumes nothing.
 use Rattle.std.specs.Prelude.{Some, None, Option}
-use Rattle.keys.specs.Keys.{KeyName}
+use Rattle.keys.specs.KeyName.{KeyName}
 use Rattle.disk.specs.Files.{FileState}
 use Rattle.slots.specs.declared.view.FileView.{FileView}
 

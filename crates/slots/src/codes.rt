@@ -1,13 +1,16 @@
-// The codes that the flat disk gives of its own accord, or that only some requests may give, as errno has them.
+// The codes that the plan tells apart, and the faults that the flat disk gives of its own accord. Codes are as errno has them.
+use faults::DiskFault;
 
 // Nothing is bound there.
-pub const ENOENT: u16 = 2;
+pub(crate) const ENOENT: u16 = 2;
 
 // Interrupted by a signal: only a write gives it.
 pub(crate) const EINTR: u16 = 4;
 
-// Not a file that is held.
-pub const EBADF: u16 = 9;
+pub const NOT_BOUND: DiskFault = DiskFault::Code(ENOENT);
 
-// No room, in bytes, in files, in holds or in mutations.
-pub const ENOSPC: u16 = 28;
+// Not a file that is held: EBADF.
+pub const NOT_HELD: DiskFault = DiskFault::Code(9);
+
+// No room, in bytes, in files, in holds or in mutations: ENOSPC.
+pub const NO_ROOM: DiskFault = DiskFault::Code(28);

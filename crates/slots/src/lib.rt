@@ -6,7 +6,6 @@ mod plan;
 mod slot;
 mod view;
 
-pub use plan::Plan;
+pub use plan::{Plan, Planned};
 pub use slot::FileSlot;
-pub use slot::keyed::Tells;
 pub use view::FileView;

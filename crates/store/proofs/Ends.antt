@@ -1,7 +1,8 @@
--- The end of an opening, whatever the call answers. Assumes nothing.
+-- What the end of an opening answers. Assumes nothing.
 use Rattle.std.proofs.Common.{◌≡◌, ℕ, Bool, true, false, cond, eqb, Some, None, Option, ap}
 use Rattle.disk.specs.Requests.{Request, Answer}
-use Rattle.rules.specs.State.{Opening, State, with_opening}
+use Rattle.rules.specs.declared.opening.Opening.{Opening}
+use Rattle.rules.specs.State.{State, with_opening}
 use Rattle.rules.specs.Tree.{Prog, Runs, done}
 use Rattle.rules.specs.Ends.{end_from, end_rule, ended, register, retire_rule}
 
@@ -10,18 +11,6 @@ abbrev ways : {R : Type 0} → State → ℕ → R → Opening → Bool → Prog
 ways s n r o b = cond b (retire_rule (register s n o) n o r) (done (r, with_opening (register s n o) n (Some (ended o))))
 
 module _ {S : Type 0} (did : S → (q : Request) → Answer q → S → Type 0) (s : State) (n : ℕ) (d e : S) (t : State) where
-  any_way : {R Q : Type 0} (a : R) (b : Q) (o : Opening) (c : Bool) → Runs did (ways s n a o c) d (a, t) e → Runs did (ways s n b o c) d (b, t) e
-  any_way {R} a b o true h = (h.0, h.1, h.2, (ap (λ (p : R × State). (b, p.1)) h.3.0, h.3.1))
-  any_way {R} a b o false h = (ap (λ (p : R × State). (b, p.1)) h.0, h.1)
-
-  any_from : {R Q : Type 0} (a : R) (b : Q) (o : Option Opening) → Runs did (end_from s n a o) d (a, t) e → Runs did (end_from s n b o) d (b, t) e
-  any_from {R} a b None h = (ap (λ (p : R × State). (b, p.1)) h.0, h.1)
-  any_from {R} a b (Some o) h = any_way a b o (eqb o.account.out 0) h
-
-  -- an opening ends alike for all answers
-  pub end_any : {R Q : Type 0} (a : R) (b : Q) → Runs did (end_rule s n a) d (a, t) e → Runs did (end_rule s n b) d (b, t) e
-  end_any a b h = any_from a b (s.openings.at n) h
-
   answers_way : {R : Type 0} (a x : R) (o : Opening) (c : Bool) → Runs did (ways s n a o c) d (x, t) e → x ≡ a
   answers_way {R} a x o true h = ap (λ (p : R × State). p.0) h.3.0
   answers_way {R} a x o false h = ap (λ (p : R × State). p.0) h.0
@@ -30,6 +19,6 @@ module _ {S : Type 0} (did : S → (q : Request) → Answer q → S → Type 0) 
   answers_from {R} a x None h = ap (λ (p : R × State). p.0) h.0
   answers_from {R} a x (Some o) h = answers_way a x o (eqb o.account.out 0) h
 
-  -- and answers what it was to answer
+  -- an opening that ends answers what it was to answer
   pub end_answers : {R : Type 0} (a x : R) → Runs did (end_rule s n a) d (x, t) e → x ≡ a
   end_answers a x h = answers_from a x (s.openings.at n) h

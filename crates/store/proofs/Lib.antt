@@ -1,4 +1,3 @@
 pub mod Programs
 pub mod Ends
-pub mod Admits
 pub mod Spends

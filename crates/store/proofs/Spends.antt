@@ -1,8 +1,7 @@
 -- A finish that gets past its checks spends the opening, whatever it answers. Assumes nothing.
 use Rattle.std.proofs.Common.{◌≡◌, ℕ, ◌-◌, Bool, true, false, cond, eqb, leb, Some, None, Ok, Err, Option, Result, refl, ap, ◌∙◌}
 use Rattle.faults.specs.Numbers.{refusal}
-use Rattle.faults.specs.declared.disk.FlushFault.{FlushFault}
-use Rattle.faults.specs.declared.disk.LengthFault.{LengthFault}
+use Rattle.faults.specs.Kinds.{FlushFault, LengthFault}
 use Rattle.faults.specs.declared.store.Fault.{Fault}
 use Rattle.faults.specs.declared.store.Fault.TheVariants.{BlobSyncFailed, ReadFailed}
 use Rattle.faults.specs.declared.store.Failure.{Failure}
@@ -10,7 +9,8 @@ use Rattle.faults.specs.declared.store.Failure.TheVariants.{Header, Write, Sync}
 use Rattle.disk.specs.Requests.{Request, Answer}
 use Rattle.rules.specs.declared.opening.Account.{Account}
 use Rattle.rules.specs.declared.pending.Entry.{Entry}
-use Rattle.rules.specs.State.{Opening, State}
+use Rattle.rules.specs.declared.opening.Opening.{Opening}
+use Rattle.rules.specs.State.{State}
 use Rattle.rules.specs.Tree.{Runs, done}
 use Rattle.rules.specs.Calls.{left_of}
 use Rattle.rules.specs.Ends.{change, end_rule}

@@ -1,10 +1,13 @@
 -- What a store stands for, what it is to follow a rule, and the answers of the code as those of the rules: a number in
 -- the place of each token. Assumes nothing.
-use Rattle.std.specs.Prelude.{◌≡◌, ℕ, List, take, drop, Ok, Err, Option, Result}
+use Rattle.std.specs.Prelude.{◌≡◌, ℕ, List, Bool, cond, take, drop, Some, None, Ok, Err, Option, Result}
 use Rattle.std.specs.List.{slice_get}
 use Rattle.faults.specs.declared.store.Fault.{Fault}
-use Rattle.keys.specs.Keys.{KeyName}
+use Rattle.faults.specs.declared.store.Fault.TheVariants.{Unknown}
+use Rattle.keys.specs.KeyName.{KeyName}
 use Rattle.disk.specs.Requests.{Request, Answer}
+use Rattle.rules.specs.declared.opening.Stage.{Stage}
+use Rattle.rules.specs.declared.opening.Opening.{Opening}
 use Rattle.rules.specs.State.{State}
 use Rattle.rules.specs.Tree.{Prog, Runs}
 use Rattle.rules.specs.Opens as opens
@@ -12,8 +15,10 @@ use Rattle.rules.specs.Asks.{held_rule}
 use Rattle.rules.specs.Asks as asks
 use Rattle.ledger.specs.Of.{state_of}
 use Rattle.store.specs.declared.counts.Counts.{Counts}
+use Rattle.store.specs.declared.found.Found.{Found}
 use Rattle.store.specs.declared.storage.Store.{Store}
-use Rattle.store.specs.declared.tokens.Blob.{Blob}
+use Rattle.store.specs.declared.tokens.Token.{Token}
+use Rattle.store.specs.declared.tokens.Yielded.{Yielded}
 use Rattle.store.specs.declared.tokens.Opened.{Opened}
 use Rattle.store.specs.declared.tokens.Opened.TheVariants.{Ready, Owed}
 
@@ -27,6 +32,18 @@ disk_of s = s.disk
 abbrev pub Does : {D R : Type 0} → (D → (q : Request) → Answer q → D → Type 0) → Store D → (State → Prog (R × State)) → R → Store D → Type 0
 Does did s rule r t = Runs did (rule (state s)) (disk_of s) (r, state t) (disk_of t)
 
+-- whether an opening is at a stage that fits
+abbrev pub of_kind : (Stage → Bool) → Opening → Bool
+of_kind fits o = fits o.account.stage
+
+-- the opening of a token, or 18 where it is not at the stage asked
+abbrev pub found : (Opening → Bool) → Option Opening → Result Opening Fault
+found fits None = Err Unknown
+found fits (Some o) = cond (fits o) (Ok o) (Err Unknown)
+
+abbrev pub found_opening : Found → Opening
+found_opening f = f.opening
+
 -- ---- answers
 
 abbrev pub answered : {X Y : Type 0} → (X → Y) → Result X Fault → Result Y Fault
@@ -38,7 +55,7 @@ opened_of (Ready b len) = opens.blob b.number len
 opened_of (Owed o) = opens.owing o.number
 
 -- a blob with its length
-abbrev pub ready_of : Blob × ℕ → ℕ × ℕ
+abbrev pub ready_of : Token Yielded × ℕ → ℕ × ℕ
 ready_of b = (b.0.number, b.1)
 
 abbrev pub counted : Counts → asks.Counts

@@ -13,10 +13,10 @@ pub struct Counts {
     pub synced: u64,
 }
 
-impl Counts {
-    pub(crate) fn of(tracker: &Tracker) -> Counts
-        ensures { counted result ≡ counts_of tracker.now }
-    {
+impl From<Tracker> for Counts {
+    ghost from_gives = { λ t c. counted c ≡ counts_of t };
+
+    fn from(tracker: Tracker) -> Counts {
         Counts {
             written: tracker.written,
             completed: tracker.completed,
@@ -29,8 +29,7 @@ impl Counts {
 pub(crate) fn share_of(account: &Account) -> u128
     ensures { result ≡ share account.now }
 {
-    if account.syncs == 0 {
-        return 0;
-    }
-    account.skipped as u128 * 1000 / account.syncs as u128
+    (u128::from(account.skipped) * 1000)
+        .checked_div(u128::from(account.syncs))
+        .unwrap_or(0)
 }

@@ -5,20 +5,20 @@ use Rattle.std.specs.Map.{update}
 use Rattle.std.specs.List.{remove, HoldsAt}
 use Rattle.std.specs.Option.{option_map}
 use Rattle.std.proofs.lemmas.List as lists
-use Rattle.std.proofs.lemmas.Bool.{and_parts, and_from, or_left, lt-ltb, le-ltb}
+use Rattle.std.proofs.lemmas.Bool.{and_parts, and_from, or_left, le-ltb}
 use Rattle.table.specs.Maps.{Map, fits, others, rekeyed, put, none}
-use Rattle.table.specs.Numbers.{Without, Place}
-use Rattle.table.specs.Held.{held, apart, Tells, map_of}
+use Rattle.table.specs.Keys.{Without, Place}
+use Rattle.table.specs.Held.{held, apart, TellsApart, map_of}
 
 none_parts : {X : Type 0} (b : Bool) (x : X) (o : Option X) → cond b (Some x) o ≡ None → (b ≡ false) × (o ≡ None)
 none_parts true x o e = let z : ◌≡◌ {A = ℕ} 0 1 = cc in absurd (omega arith)
 none_parts false x o e = (refl, e)
 
-none_from : {X : Type 0} (o : Option X) → not (is_some o) ≡ true → o ≡ None
+pub none_from : {X : Type 0} (o : Option X) → not (is_some o) ≡ true → o ≡ None
 none_from None e = refl
 none_from (Some x) e = let z : ◌≡◌ {A = ℕ} 0 1 = cc in absurd (omega arith)
 
-from_none : {X : Type 0} (o : Option X) → o ≡ None → not (is_some o) ≡ true
+pub from_none : {X : Type 0} (o : Option X) → o ≡ None → not (is_some o) ≡ true
 from_none o e = ap (λ v. not (is_some v)) e
 
 mapped_update : {X Y K : Type 0} (same : K → K → Bool) (v : X → Y) (f : K → Option X) (k : K) (w : Option X) (q : K) → option_map v (update same f k w q) ≡ update same (λ k. option_map v (f k)) k (option_map v w) q
@@ -26,13 +26,13 @@ mapped_update same v f k w q =
     elim (same k q) as (λ b. option_map v (cond b w (f q)) ≡ cond b (option_map v w) (option_map v (f q))) [ true ↦ refl | false ↦ refl ]
 
 -- to free a key that has no place changes nothing
-pub put_still : {K Y : Type 0} (same : K → K → Bool) (tells : Tells same) (m : Map K Y) (k : K) → m.at k ≡ None → m ≡ put same m k None
+pub put_still : {K Y : Type 0} (same : K → K → Bool) (tells : TellsApart same) (m : Map K Y) (k : K) → m.at k ≡ None → m ≡ put same m k None
 put_still {K} {Y} same tells m k e =
     let at-q : (q : K) → m.at q ≡ update same m.at k None q = λ q. let t = tells q k in grind arith in
     let all = sym (ap (λ o. rekeyed {X = Y} same m.keys k o None) e) in
     (λ j. record { at = λ q. at-q q j; keys = all j })
 
-module _ {X K : Type 0} (same : K → K → Bool) (tells : Tells same) (id : X → K) where
+module _ {X K : Type 0} (same : K → K → Bool) (tells : TellsApart same) (id : X → K) where
   tail : (x : X) (xs : List X) (n : K) (k : ℕ) → Without id (x ∷ xs) n (suc k) → Without id xs n k
   tail x xs n k w j d _ h = w (suc j) d (omega arith) (omega arith)
 
@@ -189,9 +189,6 @@ module _ {X K : Type 0} (same : K → K → Bool) (tells : Tells same) (id : X �
     fits_absent : (n : ℕ) (xs : List X) (k : K) → Place id xs k None → ltb (length xs) n ≡ fits n (map_of same id value xs) k
     fits_absent n xs k p =
         ap (λ l. ltb l n) (sym (length-map xs id)) ∙ sym (ap (λ o. is_some o || ltb (length (map id xs)) n) (at_absent xs k p))
-
-    pub fits_new : (n : ℕ) (xs : List X) (k : K) → Place id xs k None → length xs < n → true ≡ fits n (map_of same id value xs) k
-    fits_new n xs k p h = sym (lt-ltb _ _ h) ∙ fits_absent n xs k p
 
     pub fits_none : (n : ℕ) (xs : List X) (k : K) → Place id xs k None → n ≤ length xs → false ≡ fits n (map_of same id value xs) k
     fits_none n xs k p h = sym (le-ltb _ _ h) ∙ fits_absent n xs k p

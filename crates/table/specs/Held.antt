@@ -14,8 +14,8 @@ apart same id [] = true
 apart same id (x ∷ xs) = not (is_some (held same id xs (id x))) && apart same id xs
 
 -- `same` tells whether two keys are equal
-abbrev pub Tells : {K : Type 0} → (K → K → Bool) → Type 0
-Tells {K} same = (a b : K) → ((same a b ≡ true) × (a ≡ b)) ⊎ ((same a b ≡ false) × (a ≢ b))
+abbrev pub TellsApart : {K : Type 0} → (K → K → Bool) → Type 0
+TellsApart {K} same = (a b : K) → ((same a b ≡ true) × (a ≡ b)) ⊎ ((same a b ≡ false) × (a ≢ b))
 
 -- each key has the value of its element, and the keys stand in the order of the elements
 abbrev pub map_of : {X K Y : Type 0} → (K → K → Bool) → (X → K) → (X → Y) → List X → Map K Y

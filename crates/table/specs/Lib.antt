@@ -1,4 +1,4 @@
-pub mod Numbers
+pub mod Keys
 pub mod Maps
 pub mod Held
 pub mod Slots

@@ -1,9 +1,11 @@
--- What a table of numbered values stands for. Assumes nothing.
-use Rattle.std.specs.Prelude.{ℕ, vec_items, nat_eq}
-use Rattle.table.specs.declared.base.Table.{Table}
+-- The map that a table stands for. Assumes nothing.
+use Rattle.std.specs.Prelude.{ℕ, vec_items}
+use Rattle.table.specs.declared.Identity.{Ghosts}
+use Rattle.table.specs.declared.table.Table.{Table}
 use Rattle.table.specs.Maps.{Map}
 use Rattle.table.specs.Held.{map_of}
-use Rattle.table.specs.Slots.{number_of, value_of}
+use Rattle.table.specs.Slots.{key_of, value_of}
 
-abbrev pub map : {T : Type 0} {N : ℕ} → Table T N → Map ℕ T
-map t = map_of nat_eq number_of value_of (vec_items t.items)
+-- its keys are told apart as their type says
+abbrev pub map : {K V : Type 0} {N : ℕ} {told : Ghosts K} → Table K V N told → Map K V
+map {told = told} t = map_of told.same key_of value_of (vec_items t.items)

@@ -1,33 +1,63 @@
-// Things that are looked up by a number, the one search for them, and a table of them that never grows.
+// Things that are looked up by a key, the one search for them, and a table of them that never grows.
 #![tactic(auto)]
 
-ghost use Rattle.std.specs.Prelude.{◌≡◌, ℕ};
-ghost use Rattle.table.specs.Numbers.{Place};
+ghost use Rattle.std.specs.Prelude.{◌≡◌, Bool, nat_eq};
+ghost use Rattle.table.specs.Held.{TellsApart};
+ghost use Rattle.table.specs.Keys.{Place};
+ghost use Rattle.std.proofs.lemmas.Bool.Decides.{eqb_tells};
 
-pub mod base;
 pub mod slot;
+pub mod table;
 
-pub use base::Table;
+pub use slot::Slot;
+pub use table::{Full, Table};
 
 #[cfg(test)]
 mod tests;
 
-// What has a number that it is looked up by.
-pub trait Numbered {
-    ghost id: { Self → ℕ };
+// What things are told apart by.
+pub trait Identity: Copy {
+    ghost same: { Self → Self → Bool };
 
-    fn number(&self) -> u64
-        ensures { result ≡ id self.now };
+    fn is(&self, other: &Self) -> bool
+        ensures { result ≡ same self.now other.now };
+
+    // Two are the same exactly where they are equal.
+    ghost tells: { TellsApart same };
 }
 
-// The first place of `number` among `items`, or none where it is absent.
-pub fn position<T: Numbered>(items: &[T], number: u64) -> Option<usize>
-    ensures { Place T.Numbered.id items.now number result }
-{
-    for (i, item) in items.iter().enumerate() {
-        if item.number() == number {
-            return Some(i);
-        }
+impl Identity for u64 {
+    ghost same = { nat_eq };
+
+    fn is(&self, other: &u64) -> bool {
+        self == other
     }
-    None
+
+    ghost tells = { eqb_tells };
+}
+
+// What has a key that it is looked up by.
+pub trait Keyed {
+    type Key: Identity;
+
+    ghost id: { Self → Self.Key };
+
+    // It is lent, since a key may be large.
+    fn key(&self) -> &Self::Key
+        ensures { result.now ≡ id self.now };
+}
+
+// What tells some keys from the rest.
+pub trait Tells<K> {
+    ghost told: { Self → K → Bool };
+
+    fn tells(&self, key: &K) -> bool
+        ensures { result ≡ told self.now key.now };
+}
+
+// The first place of `key` among `items`, or none where it is absent.
+pub fn position<T: Keyed>(items: &[T], key: &T::Key) -> Option<usize>
+    ensures { Place T.Keyed.id items.now key.now result }
+{
+    items.iter().position(|item| item.key().is(key))
 }

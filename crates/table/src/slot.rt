@@ -1,18 +1,20 @@
-// A value under a number.
-ghost use Rattle.table.specs.Slots.{number_of};
+// A value under its key.
+ghost use Rattle.table.specs.Slots.{key_of};
 
-use crate::Numbered;
+use crate::{Identity, Keyed};
 
 #[derive(Clone, Copy)]
-pub struct Slot<T> {
-    pub number: u64,
-    pub value: T,
+pub struct Slot<K, V> {
+    pub key: K,
+    pub value: V,
 }
 
-impl<T> Numbered for Slot<T> {
-    ghost id = { number_of };
+impl<K: Identity, V> Keyed for Slot<K, V> {
+    type Key = K;
 
-    fn number(&self) -> u64 {
-        self.number
+    ghost id = { key_of };
+
+    fn key(&self) -> &K {
+        &self.key
     }
 }

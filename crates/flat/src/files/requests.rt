@@ -1,81 +1,68 @@
-// What each request does to the files, once the plan has let it by.
-ghost use Rattle.std.specs.Prelude.{◌≡◌, length, take, drop, Some, None};
-ghost use Rattle.keys.specs.Keys.{key_name, same_key};
-ghost use Rattle.disk.specs.Offsets.{place};
+// What each request does to the files, once the plan has let it by. A file is lent from the places by themselves, since the
+// borrow checker lends no element of an array whose struct has a ghost field.
+ghost use Rattle.std.specs.Prelude.{◌≡◌, length, take, drop, None};
+ghost use Rattle.keys.specs.KeyName.{same_key};
 ghost use Rattle.disk.specs.Paths.{durable};
 ghost use Rattle.disk.specs.Requests.{read_out, Spares};
 ghost use Rattle.slots.specs.FileSteps.{held, write_answer, after_write, resize_answer, after_resize, header_answer, after_header, end_answer, after_end};
-ghost use Rattle.slots.specs.Codes.{length_fault, write_fault, resize_fault, flush_fault};
-ghost use Rattle.flat.specs.Places.{meaning_of, numbers, InOrder};
+ghost use Rattle.faults.specs.Kinds.{failed};
+ghost use Rattle.flat.specs.Places.{meaning_of};
 ghost use Rattle.flat.specs.Steps.{asked, edited, close, mark_of, open_by, unbind, first_bound};
 
 use super::Files;
+use super::place::Place;
 use disk::{FileOffset, Path};
-use faults::{DiskFault, FlushFault, LengthFault, OpenFault, ResizeFault, UnbindFault, WriteFault};
+use faults::{FlushFault, LengthFault, OpenFault, ResizeFault, UnbindFault, WriteFault};
 use keys::Key;
-use slots::codes::{EBADF, ENOENT, ENOSPC};
-use slots::{FileSlot, Tells};
+use slots::FileSlot;
+use slots::codes::{NO_ROOM, NOT_BOUND};
+use std::array;
+use table::Tells;
 
 impl Files {
     pub(crate) fn new() -> Files
-        ensures empty { meaning_of result.slots ≡ (λ _. None) }
-        ensures order { InOrder result.slots }
+        ensures { meaning_of result.slots ≡ (λ _. None) }
     {
         Files {
-            slots: [
-                FileSlot::empty(0),
-                FileSlot::empty(1),
-                FileSlot::empty(2),
-                FileSlot::empty(3),
-                FileSlot::empty(4),
-                FileSlot::empty(5),
-                FileSlot::empty(6),
-                FileSlot::empty(7),
-            ],
+            slots: array::from_fn(|i| Place {
+                number: i as u64,
+                file: FileSlot::empty(),
+            }),
         }
     }
 
     // The file of the key with one hold more, or a new one at the lowest number that is free.
+    #[tactic(auto, using(crate::specs::RowsLemmas::order_set, crate::specs::Lifts::opens_bound, crate::specs::Lifts::opens_new))]
     pub(crate) fn open(&mut self, key: &Key) -> Result<u64, OpenFault>
-        ensures did { (result, meaning_of self.new.slots) ≡ open_by (meaning_of self.old.slots) (key_name key.now) (first_bound (same_key (key_name key.now)) (meaning_of self.old.slots)) }
-        ensures numbers { numbers self.new.slots ≡ numbers self.old.slots }
+        ensures { (result, meaning_of self.new.slots) ≡ open_by (meaning_of self.old.slots) key.now (first_bound (same_key key.now) (meaning_of self.old.slots)) }
     {
-        match self.bound(key) {
-            Some(i) => {
-                if self.slots[i].hold() {
-                    Ok(i as u64)
-                } else {
-                    Err(OpenFault(DiskFault::Code(ENOSPC)))
-                }
-            }
-            None => match self.free() {
-                Some(i) => {
-                    self.slots[i].claim(*key);
-                    Ok(i as u64)
-                }
-                None => Err(OpenFault(DiskFault::Code(ENOSPC))),
-            },
+        if let Some(i) = self.bound(key) {
+            let slots = &mut self.slots;
+            slots[i].file.hold()?;
+            return Ok(i as u64);
         }
+        let i = self.free().ok_or(NO_ROOM)?;
+        let slots = &mut self.slots;
+        slots[i].file.claim(*key);
+        Ok(i as u64)
     }
 
+    #[tactic(auto, using(crate::specs::RowsLemmas::order_set, crate::specs::Lifts::closes))]
     pub(crate) fn close(&mut self, file: u64)
-        requires { InOrder self.old.slots }
-        ensures did { meaning_of self.new.slots ≡ close (meaning_of self.old.slots) file (held (meaning_of self.old.slots file)) }
-        ensures numbers { numbers self.new.slots ≡ numbers self.old.slots }
+        ensures { meaning_of self.new.slots ≡ close (meaning_of self.old.slots) file (held (meaning_of self.old.slots file)) }
     {
-        if let Some(i) = self.held(file) {
-            self.slots[i].release();
+        if let Ok(i) = self.held(file) {
+            let slots = &mut self.slots;
+            slots[i].file.release();
         }
     }
 
+    #[tactic(auto, using(crate::specs::Lifts::asks))]
     pub(crate) fn length(&self, file: u64) -> Result<u64, LengthFault>
-        requires { InOrder self.now.slots }
-        ensures { result ≡ asked length_fault (held (meaning_of self.now.slots file)) (λ x. length x.bytes) }
+        ensures { result ≡ asked failed (held (meaning_of self.now.slots file)) (λ x. length x.bytes) }
     {
-        match self.held(file) {
-            Some(i) => Ok(self.slots[i].size()),
-            None => Err(LengthFault(DiskFault::Code(EBADF))),
-        }
+        let i = self.held(file)?;
+        Ok(self.slots[i].file.size())
     }
 
     pub(crate) fn read(
@@ -84,16 +71,14 @@ impl Files {
         offset: FileOffset,
         into: &mut [u8],
     ) -> Result<usize, LengthFault>
-        requires { InOrder self.now.slots }
-        ensures answer { read_out result into.new ≡ asked length_fault (held (meaning_of self.now.slots file)) (λ x. take (length into.old) (drop (place offset) x.bytes)) }
+        ensures answer { read_out result into.new ≡ asked failed (held (meaning_of self.now.slots file)) (λ x. take (length into.old) (drop offset x.bytes)) }
         ensures spares { Spares result into.old into.new }
     {
-        match self.held(file) {
-            Some(i) => Ok(self.slots[i].read(offset.get(), into)),
-            None => Err(LengthFault(DiskFault::Code(EBADF))),
-        }
+        let i = self.held(file)?;
+        Ok(self.slots[i].file.read(offset.into(), into))
     }
 
+    #[tactic(auto, using(crate::specs::RowsLemmas::order_set))]
     pub(crate) fn write(
         &mut self,
         file: u64,
@@ -102,71 +87,60 @@ impl Files {
         path: Path,
         limit: usize,
     ) -> Result<usize, WriteFault>
-        requires { InOrder self.old.slots }
-        ensures did { (result, meaning_of self.new.slots) ≡ edited write_fault (meaning_of self.old.slots) file (held (meaning_of self.old.slots file)) (write_answer (place offset) (length bytes.now) (durable path) limit) (after_write (place offset) bytes.now (durable path)) }
-        ensures numbers { numbers self.new.slots ≡ numbers self.old.slots }
+        ensures { (result, meaning_of self.new.slots) ≡ edited failed (meaning_of self.old.slots) file (held (meaning_of self.old.slots file)) (write_answer offset (length bytes.now) (durable path) limit) (after_write offset bytes.now (durable path)) }
     {
-        match self.held(file) {
-            Some(i) => self.slots[i].write(offset.get(), bytes, path.is_durable(), limit),
-            None => Err(WriteFault(DiskFault::Code(EBADF))),
-        }
+        let i = self.held(file)?;
+        let slots = &mut self.slots;
+        slots[i]
+            .file
+            .write(offset.into(), bytes, path.is_durable(), limit)
     }
 
+    #[tactic(auto, using(crate::specs::RowsLemmas::order_set, crate::specs::Lifts::edits, crate::specs::Keeps::keeps_resize))]
     pub(crate) fn resize(&mut self, file: u64, end: FileOffset) -> Result<(), ResizeFault>
-        requires { InOrder self.old.slots }
-        ensures did { (result, meaning_of self.new.slots) ≡ edited resize_fault (meaning_of self.old.slots) file (held (meaning_of self.old.slots file)) (resize_answer (place «end»)) (after_resize (place «end»)) }
-        ensures numbers { numbers self.new.slots ≡ numbers self.old.slots }
+        ensures { (result, meaning_of self.new.slots) ≡ edited failed (meaning_of self.old.slots) file (held (meaning_of self.old.slots file)) (resize_answer «end») (after_resize «end») }
     {
-        match self.held(file) {
-            Some(i) => self.slots[i].resize(end.get()),
-            None => Err(ResizeFault(DiskFault::Code(EBADF))),
-        }
+        let i = self.held(file)?;
+        let slots = &mut self.slots;
+        slots[i].file.resize(end.into())
     }
 
+    #[tactic(auto, using(crate::specs::RowsLemmas::order_set, crate::specs::Lifts::edits, crate::specs::Keeps::keeps_header))]
     pub(crate) fn header(&mut self, file: u64, bytes: &[u8]) -> Result<(), WriteFault>
-        requires { InOrder self.old.slots }
-        ensures did { (result, meaning_of self.new.slots) ≡ edited write_fault (meaning_of self.old.slots) file (held (meaning_of self.old.slots file)) (header_answer (length bytes.now)) (after_header bytes.now) }
-        ensures numbers { numbers self.new.slots ≡ numbers self.old.slots }
+        ensures { (result, meaning_of self.new.slots) ≡ edited failed (meaning_of self.old.slots) file (held (meaning_of self.old.slots file)) (header_answer (length bytes.now)) (after_header bytes.now) }
     {
-        match self.held(file) {
-            Some(i) => self.slots[i].header(bytes),
-            None => Err(WriteFault(DiskFault::Code(EBADF))),
-        }
+        let i = self.held(file)?;
+        let slots = &mut self.slots;
+        slots[i].file.header(bytes)
     }
 
-    // The mark of a file, or 0 where it is not held.
+    // The mark of a file, or 0 where it is not held: a request for a mark has no way to refuse.
+    #[tactic(auto, using(crate::specs::Lifts::marks))]
     pub(crate) fn landed(&self, file: u64) -> u64
-        requires { InOrder self.now.slots }
         ensures { result ≡ mark_of (held (meaning_of self.now.slots file)) }
     {
         match self.held(file) {
-            Some(i) => self.slots[i].landed(),
-            None => 0,
+            Ok(i) => self.slots[i].file.landed(),
+            Err(_) => 0,
         }
     }
 
+    #[tactic(auto, using(crate::specs::RowsLemmas::order_set, crate::specs::Lifts::edits))]
     pub(crate) fn reach(&mut self, file: u64, mark: u64) -> Result<(), FlushFault>
-        requires { InOrder self.old.slots }
-        ensures did { (result, meaning_of self.new.slots) ≡ edited flush_fault (meaning_of self.old.slots) file (held (meaning_of self.old.slots file)) end_answer (after_end mark) }
-        ensures numbers { numbers self.new.slots ≡ numbers self.old.slots }
+        ensures { (result, meaning_of self.new.slots) ≡ edited failed (meaning_of self.old.slots) file (held (meaning_of self.old.slots file)) end_answer (after_end mark) }
     {
-        match self.held(file) {
-            Some(i) => {
-                self.slots[i].reach(mark);
-                Ok(())
-            }
-            None => Err(FlushFault(DiskFault::Code(EBADF))),
-        }
+        let i = self.held(file)?;
+        let slots = &mut self.slots;
+        slots[i].file.reach(mark);
+        Ok(())
     }
 
     // Takes every key that is told, or says that there is none.
-    pub(crate) fn unbind<T: Tells>(&mut self, going: &T) -> Result<(), UnbindFault>
-        ensures did { (result, meaning_of self.new.slots) ≡ unbind (T.Tells.told going.now) (meaning_of self.old.slots) (first_bound (T.Tells.told going.now) (meaning_of self.old.slots)) }
-        ensures numbers { numbers self.new.slots ≡ numbers self.old.slots }
+    #[tactic(auto, using(crate::specs::Lifts::unbinds))]
+    pub(crate) fn unbind<T: Tells<Key>>(&mut self, going: &T) -> Result<(), UnbindFault>
+        ensures { (result, meaning_of self.new.slots) ≡ unbind (T.told going.now) (meaning_of self.old.slots) (first_bound (T.told going.now) (meaning_of self.old.slots)) }
     {
-        if self.bound(going).is_none() {
-            return Err(UnbindFault(DiskFault::Code(ENOENT)));
-        }
+        self.bound(going).ok_or(NOT_BOUND)?;
         self.forget(going);
         Ok(())
     }

@@ -1,8 +1,6 @@
 // What the flat disk is asked. Every request takes an entry of the plan first.
 ghost use Rattle.std.specs.Prelude.{◌≡◌, None};
 ghost use Rattle.std.proofs.Common.{sym, subst};
-ghost use Rattle.std.specs.Option.{option_map};
-ghost use Rattle.keys.specs.Keys.{key_name};
 ghost use Rattle.disk.specs.Requests.{ask_flush_root};
 ghost use Rattle.slots.specs.Views.{seen};
 ghost use Rattle.flat.specs.Places.{key_in};
@@ -35,10 +33,7 @@ impl FlatDisk {
     fn flush(&mut self) -> Result<(), WriteFault>
         ensures { FlatDid self.old ask_flush_root result self.new }
     {
-        match self.plan.fault() {
-            Some(fault) => Err(WriteFault(fault)),
-            None => Ok(()),
-        }
+        Ok(self.plan.take().pass()?)
     }
 
     // The file of a number. To look takes no entry of the plan.
@@ -50,7 +45,7 @@ impl FlatDisk {
 
     // The key that the file of a number is bound to.
     pub fn key(&self, number: u64) -> Option<Key>
-        ensures { option_map key_name result ≡ key_in (flat_meaning self.now number) }
+        ensures { result ≡ key_in (flat_meaning self.now number) }
     {
         self.files.key(number)
     }
@@ -61,28 +56,24 @@ impl Disk for FlatDisk {
 
     ghost did = { FlatDid };
 
-    ghost valid = { λ d. Laws.valid d.files.slots d.distinct };
+    ghost valid = { λ d. Laws.valid d.files.slots d.sound };
 
     ghost keeps = { λ d q a e h.
         let s = flat_meaning d in
-        subst (λ r. DiskRules s q r.0 r.1.files) (sym h) (rules s (small d.files.slots d.order) (first (rest d.plan)) q) };
+        subst (λ r. DiskRules s q r.0 r.1.files) (sym h) (rules s (small d.files.slots d.files.order) (first (rest d.plan)) q) };
 
     fn open(&mut self, key: &Key) -> Result<u64, OpenFault> {
-        if let Some(fault) = self.plan.fault() {
-            return Err(OpenFault(fault));
-        }
+        self.plan.take().pass()?;
         self.files.open(key)
     }
 
     fn close(&mut self, file: u64) {
-        let _ = self.plan.take();
+        self.plan.take();
         self.files.close(file);
     }
 
     fn length(&mut self, file: u64) -> Result<u64, LengthFault> {
-        if let Some(fault) = self.plan.fault() {
-            return Err(LengthFault(fault));
-        }
+        self.plan.take().pass()?;
         self.files.length(file)
     }
 
@@ -92,9 +83,7 @@ impl Disk for FlatDisk {
         offset: FileOffset,
         into: &mut [u8],
     ) -> Result<usize, LengthFault> {
-        if let Some(fault) = self.plan.fault() {
-            return Err(LengthFault(fault));
-        }
+        self.plan.take().pass()?;
         self.files.read(file, offset, into)
     }
 
@@ -105,35 +94,27 @@ impl Disk for FlatDisk {
         bytes: &[u8],
         path: Path,
     ) -> Result<usize, WriteFault> {
-        match self.plan.landing(bytes.len()) {
-            Ok(limit) => self.files.write(file, offset, bytes, path, limit),
-            Err(fault) => Err(WriteFault(fault)),
-        }
+        let limit = self.plan.take().landing(bytes.len())?;
+        self.files.write(file, offset, bytes, path, limit)
     }
 
     fn resize(&mut self, file: u64, end: FileOffset) -> Result<(), ResizeFault> {
-        if let Some(fault) = self.plan.fault() {
-            return Err(ResizeFault(fault));
-        }
+        self.plan.take().pass()?;
         self.files.resize(file, end)
     }
 
     fn barrier_start(&mut self, file: u64) -> u64 {
-        let _ = self.plan.take();
+        self.plan.take();
         self.files.landed(file)
     }
 
     fn barrier_end(&mut self, file: u64, mark: u64) -> Result<(), FlushFault> {
-        if let Some(fault) = self.plan.fault() {
-            return Err(FlushFault(fault));
-        }
+        self.plan.take().pass()?;
         self.files.reach(file, mark)
     }
 
     fn header(&mut self, file: u64, bytes: &[u8]) -> Result<(), WriteFault> {
-        if let Some(fault) = self.plan.fault() {
-            return Err(WriteFault(fault));
-        }
+        self.plan.take().pass()?;
         self.files.header(file, bytes)
     }
 
@@ -146,16 +127,12 @@ impl Disk for FlatDisk {
     }
 
     fn unbind(&mut self, key: &Key) -> Result<(), UnbindFault> {
-        if let Some(fault) = self.plan.unbind_fault() {
-            return Err(UnbindFault(fault));
-        }
+        self.plan.take().pass_unbind()?;
         self.files.unbind(key)
     }
 
     fn unbind_partition(&mut self, partition: &Partition) -> Result<(), UnbindFault> {
-        if let Some(fault) = self.plan.unbind_fault() {
-            return Err(UnbindFault(fault));
-        }
+        self.plan.take().pass_unbind()?;
         self.files.unbind(partition)
     }
 }

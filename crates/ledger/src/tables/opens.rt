@@ -1,8 +1,6 @@
 // What an open asks of the tables, and how the next opening is admitted.
 ghost use Rattle.std.specs.Prelude.{◌≡◌, if◌then◌else◌, Some, None};
-ghost use Rattle.std.specs.Option.{option_map};
-ghost use Rattle.faults.specs.Numbers.{refusal};
-ghost use Rattle.keys.specs.Keys.{key_name};
+ghost use Rattle.std.specs.Result.{result_err};
 ghost use Rattle.rules.specs.Ends.{live};
 ghost use Rattle.rules.specs.Opens.{admit, barred, new_account, new_number, room};
 ghost use Rattle.rules.specs.Finishes.{has_out, unspent};
@@ -10,23 +8,12 @@ ghost use Rattle.ledger.specs.Of.{state_of};
 ghost use Rattle.ledger.specs.Adds.{OpenCheck, admits, named};
 
 use super::{ADMITTED, Ledger, NAMES, OPENINGS};
-use crate::open::Open;
-use faults::{Failure, Fault};
+use faults::Fault;
 use keys::Key;
-use rules::{Account, Entry, Stage, Tracker, is_owing, waited_for};
+use rules::{Account, Entry, Opening, Stage, Tracker, is_owing, waited_for};
 
 // The bytes of a header.
 const HEADER: usize = 4096;
-
-// The refusal that a kept failure gives.
-fn refusal_of(failure: Option<Failure>) -> Option<Fault>
-    ensures { result ≡ option_map refusal failure }
-{
-    match failure {
-        Some(failure) => Some(failure.into()),
-        None => None,
-    }
-}
 
 // The account of a new opening, which owes what the entry of its name says.
 fn new_account(file: u64, offset: u64, was: &Option<Entry>) -> Account
@@ -57,40 +44,33 @@ impl Ledger {
     pub fn is_live(&self, number: u64) -> bool
         ensures { result ≡ live (state_of self.now) number }
     {
-        match self.opening(number) {
-            Some(open) => !open.account.stage.is_ended(),
-            None => false,
-        }
+        self.opening(number)
+            .is_some_and(|opening| !opening.account.stage.is_ended())
     }
 
     fn has_out(&self, number: u64) -> bool
         ensures { result ≡ has_out ((state_of self.now).openings.at number) }
     {
-        match self.opening(number) {
-            Some(open) => open.account.out > 0,
-            None => false,
-        }
+        self.opening(number)
+            .is_some_and(|opening| opening.account.out > 0)
     }
 
     // Whether the opening before another, if there was one, has a ticket out.
     pub fn unspent(&self, predecessor: Option<u64>) -> bool
         ensures { result ≡ unspent (state_of self.now) predecessor }
     {
-        match predecessor {
-            Some(number) => self.has_out(number),
-            None => false,
-        }
+        predecessor.is_some_and(|number| self.has_out(number))
     }
 
     fn has_room(&self, key: &Key) -> bool
-        ensures { result ≡ room (state_of self.now) (key_name key.now) }
+        ensures { result ≡ room (state_of self.now) key.now }
     {
         (self.names.find(key).is_some() || self.names.held() < NAMES)
             && self.openings.taken() < OPENINGS
     }
 
     fn admits(&self, key: &Key) -> bool
-        ensures { result ≡ admits (state_of self.now) (key_name key.now) }
+        ensures { result ≡ admits (state_of self.now) key.now }
     {
         self.has_room(key) && self.admitted < ADMITTED
     }
@@ -112,33 +92,24 @@ impl Ledger {
         Ok(key)
     }
 
-    // Why an existing name is not opened: its opening has not ended, or left a failure.
-    pub fn bar(&self, was: &Option<Entry>) -> Option<Fault>
-        ensures { result ≡ barred (state_of self.now) was.now }
+    // Refuses an existing name whose opening has not ended, or left a failure.
+    pub fn bar(&self, was: &Option<Entry>) -> Result<(), Fault>
+        ensures { result_err result ≡ barred (state_of self.now) was.now }
     {
-        match was {
-            Some(entry) => {
-                if self.is_live(entry.opening) {
-                    Some(Fault::BlobAlreadyOpen)
-                } else {
-                    refusal_of(entry.failure)
-                }
-            }
-            None => None,
-        }
+        was.map_or(Ok(()), |entry| entry.bar(self.is_live(entry.opening)))
     }
 
     // Admits the next opening of a name whose entry was this, where there is room for it. Nothing is changed where there
     // is not.
     pub fn admit(&mut self, key: &Key, file: u64, offset: u64, was: &Option<Entry>) -> Option<u64>
-        ensures value { result ≡ (if admits (state_of self.old) (key_name key.now) then Some (new_number (state_of self.old)) else None) }
-        ensures after { state_of self.new ≡ (if admits (state_of self.old) (key_name key.now) then admit (state_of self.old) (key_name key.now) file offset was.now else state_of self.old) }
+        ensures value { result ≡ (if admits (state_of self.old) key.now then Some (new_number (state_of self.old)) else None) }
+        ensures after { state_of self.new ≡ (if admits (state_of self.old) key.now then admit (state_of self.old) key.now file offset was.now else state_of self.old) }
     {
         if !self.admits(key) {
             return None;
         }
         let account = new_account(file, offset, was);
-        let _ = self.names.admit(key, self.admitted + 1, was);
-        self.add_opening(Open { key: *key, account })
+        self.names.admit(key, self.admitted + 1, was).unwrap();
+        self.add_opening(Opening { key: *key, account })
     }
 }

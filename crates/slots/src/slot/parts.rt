@@ -24,11 +24,8 @@ pub(crate) fn copy_out(all: &[u8], offset: u64, into: &mut [u8]) -> usize
     ensures value { result ≡ min (length into.old) (length all.now - offset) }
     ensures after { into.new ≡ take result (drop offset all.now) ++ drop result into.old }
 {
-    let at = offset as usize;
-    if at >= all.len() {
-        return 0;
-    }
-    let count = into.len().min(all.len() - at);
-    put(into, 0, &all[at..at + count]);
+    let part = all.get(offset as usize..).unwrap_or(&[]);
+    let count = into.len().min(part.len());
+    put(into, 0, &part[..count]);
     count
 }

@@ -9,6 +9,6 @@ use Rattle.store.proofs.storage.Store.refuse_flush.Goals as goal
 
 pub returns : goal.returns
 returns g c =
-    let n = c.args.number in
+    let n = c.args.found.now.number in
     let f = c.args.fault in
-    runs_at g.D.Disk.did (λ (t : State). end_rule t n (Err (BlobSyncFailed f))) _ _ _ (c.keep.ensures ∙ ap (λ (t : State). change t n (keep (Sync f))) c.fail.ensures) c.refuse_blob.ensures
+    runs_at g.D.Disk.did (λ (t : State). end_rule t n (Err (BlobSyncFailed f))) _ _ _ (c.keep.ensures ∙ ap (λ (t : State). change t n (keep (Sync f))) c.fail.ensures) c.refuse.ensures
