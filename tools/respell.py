@@ -1,7 +1,7 @@
 #!/usr/bin/env python3
 """Spells this repository's own definitions, lemmas, constructors and record fields in snake case.
 
-usage: python3 tools/respell.py     at the top of the repository, after /opt/rattle/port/port.py, once
+usage: python3 tools/respell.py     at the top of the repository, after `port.py` of the kit, once
 
 A name that is declared in specs/ or proofs/ with a dash gets an underscore in its place, wherever it stands: in the
 files of specs/, proofs/ and src/, and in the texts of the must-fail edits. Names of goals (declared in a proof file

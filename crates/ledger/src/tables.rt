@@ -105,7 +105,8 @@ impl Ledger {
         );
     }
 
-    // Sets the account of an opening that is there. By the table and not by `change`, whose closure leaves more to prove.
+    // Sets the account of an opening that is there; the two go beside each other, as in the rule. By the table: by `change` it was
+    // tried, and the proof did not close.
     pub fn set_account(&mut self, number: u64, account: Account)
         ensures { state_of self.new ≡ with_opening (state_of self.old) number (option_map (λ o. with_account o account) ((state_of self.old).openings.at number)) }
     {

@@ -16,6 +16,8 @@ use faults::{DiskFault, Failure, Fault};
 use rules::Entry;
 
 impl<D: Disk> Store<D> {
+    // Reads the length as `measure` does, and leaves another state: to share the reading takes a rule and three proofs more, and
+    // is no plainer.
     fn make_ready(&mut self, found: &Found) -> Result<(Blob, u64), Fault>
         ensures { Does D.Disk.did self.old (λ s. ready_rule s found.now.number found.now.opening.account) (answered ready_of result) self.new }
     {
@@ -37,7 +39,7 @@ impl<D: Disk> Store<D> {
         self.make_ready(found)
     }
 
-    // The debt is not flushed, and never will be: the name and the opening keep that.
+    // The debt is not flushed, and never will be: the name and the opening keep that. `refuse_header` has a rule of its own.
     fn refuse_flush(&mut self, found: &Found, fault: DiskFault) -> Result<(Blob, u64), Fault>
         ensures { Does D.Disk.did self.old (λ s. end_rule (change (fail_name s found.now.opening.key found.now.number (Sync fault)) found.now.number (keep (Sync fault))) found.now.number (Err (BlobSyncFailed fault))) (answered ready_of result) self.new }
     {

@@ -43,7 +43,8 @@ impl<D: Disk> Store<D> {
     }
 
     // A file that reaches its data yields a blob. `make_ready` reads the same and leaves another state: to share the reading
-    // takes a rule and three proofs more, and is no plainer.
+    // takes a rule and three proofs more, and is no plainer. Its parameters, as those of `lay`, are the arguments of the rule of
+    // its name.
     fn measure(&mut self, number: u64, file: u64, offset: u64) -> Result<Opened, Fault>
         ensures { Does D.Disk.did self.old (λ s. measure_rule s number file offset) (answered opened_of result) self.new }
     {

@@ -7,7 +7,6 @@ ghost use Rattle.rules.specs.State.{is_blob, is_owing};
 
 use rules::Stage;
 use std::marker::PhantomData;
-use std::mem;
 
 // What a token is of: the stage that its opening has to be at.
 pub trait Kind {
@@ -72,12 +71,10 @@ impl<K> Token<K> {
         self.number
     }
 
-    // Spends the token, and answers the number that it had.
-    pub(crate) fn spend(&mut self) -> u64
-        ensures value { result ≡ self.old.number }
-        ensures after { self.new.number ≡ 0 }
+    pub(crate) fn spend(&mut self)
+        ensures { self.new.number ≡ 0 }
     {
-        mem::take(&mut self.number)
+        self.number = 0;
     }
 }
 

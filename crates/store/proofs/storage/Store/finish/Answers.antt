@@ -9,4 +9,4 @@ returns-clause-token g c =
     let n = c.args.owing.now.number in
     let f = c.in_ok-found.field-0 in
     let r = c.finish_by_entry.result in
-    c.spend.ensures.after ∙ sym (sym (left_answered ready_of n r) ∙ by_entry_spends g.D.Disk.did n _ (answered ready_of r) _ s f.number f.opening (s.names.at f.opening.key) _ c.finish_by_entry.ensures)
+    c.spend.ensures ∙ sym (sym (left_answered ready_of n r) ∙ by_entry_spends g.D.Disk.did n _ (answered ready_of r) _ s f.number f.opening (s.names.at f.opening.key) _ c.finish_by_entry.ensures)
