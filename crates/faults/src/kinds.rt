@@ -7,10 +7,11 @@ ghost use Rattle.faults.specs.declared.store.Fault.TheVariants.{BlobOpenFailed, 
 
 use crate::disk::DiskFault;
 use crate::store::Fault;
+use std::fmt;
 use std::marker::PhantomData;
 
 // K is the kind. It is in the type alone.
-#[derive(Clone, Copy, PartialEq, Eq, Debug)]
+#[derive(Clone, Copy, PartialEq, Eq)]
 pub struct Failed<K>(pub DiskFault, PhantomData<K>);
 
 #[derive(Clone, Copy, PartialEq, Eq, Debug)]
@@ -46,6 +47,42 @@ pub type ResizeFault = Failed<Resize>;
 pub type LengthFault = Failed<Length>;
 
 pub type UnbindFault = Failed<Unbind>;
+
+// A kind by the name of its faults.
+pub trait Kind {
+    const NAME: &'static str;
+}
+
+impl Kind for Open {
+    const NAME: &'static str = "OpenFault";
+}
+
+impl Kind for Write {
+    const NAME: &'static str = "WriteFault";
+}
+
+impl Kind for Flush {
+    const NAME: &'static str = "FlushFault";
+}
+
+impl Kind for Resize {
+    const NAME: &'static str = "ResizeFault";
+}
+
+impl Kind for Length {
+    const NAME: &'static str = "LengthFault";
+}
+
+impl Kind for Unbind {
+    const NAME: &'static str = "UnbindFault";
+}
+
+// By hand, since a derive would print the kind of none.
+impl<K: Kind> fmt::Debug for Failed<K> {
+    fn fmt<W: fmt::Write>(&self, f: &mut fmt::Formatter<W>) -> fmt::Result {
+        f.debug_tuple(K::NAME).field(&self.0).finish()
+    }
+}
 
 // A kind that one refusal follows from.
 pub trait Refuses {

@@ -7,6 +7,9 @@ pub mod store;
 
 pub use disk::DiskFault;
 pub use kinds::{
-    Failed, FlushFault, LengthFault, OpenFault, Refuses, ResizeFault, UnbindFault, WriteFault,
+    Failed, FlushFault, Kind, LengthFault, OpenFault, Refuses, ResizeFault, UnbindFault, WriteFault,
 };
 pub use store::{Failure, Fault};
+
+#[cfg(test)]
+mod tests;

@@ -20,7 +20,7 @@ use Rattle.slots.specs.Plans.{is_code, planned_if, planned, planned_unbind, land
 use Rattle.slots.specs.Codes.{no_room}
 use Rattle.slots.specs.FileSteps.{held, full, fits, write_refused, write_answer, after_write, resize_answer, after_resize, header_answer, after_header, end_answer, after_end}
 use Rattle.flat.specs.declared.files.place.Place.{Place}
-use Rattle.flat.specs.Places.{live, files_of, file_of, meaning_of, key_in, bound_by, is_free, Sound}
+use Rattle.flat.specs.Places.{live, files_of, file_of, meaning_of, key_in, bound_by, is_free, Distinct, Covered}
 use Rattle.flat.specs.Steps.{unless, asked, edited, close, mark_of, write, open_held, open_old, open_new, open_by, first_bound, first_free, unbind, does}
 use Rattle.flat.specs.RowsLemmas.{never, kept_is}
 use Rattle.flat.specs.Firsts.{Finds, first_finds}
@@ -187,7 +187,7 @@ rules s m p (ask_unbind_partition d) =
     by_plan failed s (unbind (in_partition d) s (first_bound (in_partition d) s)) (UnbindPartitionRule s d) (planned_unbind p)
     (λ y e. let c = unbind_code p y e in (λ i. absurd (c.0 i), c.1, leaves s d)) (partition_rule s d m (first_bound (in_partition d) s) (first_finds (bound_by (in_partition d)) s 0 8))
 
--- ---- sound files are a valid disk
+-- ---- such files are a valid disk
 
 live_there : (o : Option FileState) (x : FileState) → live o ≡ Some x → (0 < x.holds) ⊎ (is_some x.key ≡ true)
 live_there None x e = absurd (never x e)
@@ -198,10 +198,10 @@ live_there (Some y) x e =
       | inr t ↦ inr (ap (λ v. is_some v.key) a.0 ∙ t)
     ]
 
-pub valid : (xs : List Place) → Sound (meaning_of xs) → Valid (meaning_of xs)
+pub valid : (xs : List Place) → Distinct (meaning_of xs) → Covered (meaning_of xs) → Valid (meaning_of xs)
 unfolding files_of
-valid xs s = record {
-  once = λ q f g a b. s.distinct f g (q, ap key_in a.1 ∙ a.2, ap key_in b.1 ∙ b.2);
-  covered = s.covered;
+valid xs d c = record {
+  once = λ q f g a b. d f g (q, ap key_in a.1 ∙ a.2, ap key_in b.1 ∙ b.2);
+  covered = c;
   there = λ f x e. live_there (slice_get (map file_of xs) f) x e;
 }

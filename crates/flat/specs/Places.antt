@@ -1,5 +1,5 @@
 -- The files of the eight places as a disk's meaning. Assumes nothing.
-use Rattle.std.specs.Prelude.{◌≡◌, ℕ, zero, suc, Bool, true, false, cond, List, map, Some, None, Option, ◌≤◌}
+use Rattle.std.specs.Prelude.{◌≡◌, ℕ, zero, suc, Bool, true, false, cond, List, map, length, Some, None, Option, ◌≤◌}
 use Rattle.std.specs.List.{slice_get, range_with_len}
 use Rattle.keys.specs.KeyName.{KeyName}
 use Rattle.disk.specs.Files.{FileState, DiskState, kept}
@@ -51,10 +51,15 @@ Distinct s = (f g : ℕ) → Shared (key_in (s f)) (key_in (s g)) → f ≡ g
 abbrev pub Covered : DiskState → Type 0
 Covered s = (f : ℕ) (x : FileState) → s f ≡ Some x → x.k ≤ x.n
 
+-- no file has more than 4,096 bytes
+abbrev pub Within : DiskState → Type 0
+Within s = (f : ℕ) (x : FileState) → s f ≡ Some x → length x.bytes ≤ 4096
+
 -- what holds of the files at all times
 pub record Sound (s : DiskState) : Type 0 where
   pub distinct : Distinct s
   pub covered : Covered s
+  pub within : Within s
 
 -- the first number from i on, of m numbers, whose file passes a test
 unfoldable pub first_from : (Option FileState → Bool) → DiskState → ℕ → ℕ → Option ℕ

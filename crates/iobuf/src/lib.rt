@@ -28,12 +28,15 @@ pub fn chunk_count(lengths: &[u64]) -> usize
     }
 }
 
-// Whether the lengths add up to `size`; a sum that does not fit is none.
+// Whether the lengths add up to `size`. It stops at the first that is too much.
 #[tactic(auto, using(crate::proofs::Sums::total_is_sum))]
 fn add_up(lengths: &[u64], size: u64) -> bool
     ensures { result ≡ (total lengths.now == size) }
 {
-    lengths.iter().copied().try_fold(0, u64::checked_add) == Some(size)
+    lengths.iter().try_fold(
+        0,
+        |sum: u64, length| sum.checked_add(*length).filter(|sum| *sum <= size),
+    ) == Some(size)
 }
 
 // Whether a header of `size` bytes is within its limit.
@@ -59,8 +62,12 @@ pub fn next_len(lengths: &[u64], landed: usize, left: usize) -> usize
     lengths
         .iter()
         .scan(landed as u64, |down, length| {
-            let part = length.saturating_sub(*down);
-            *down = down.saturating_sub(*length);
+            if *length <= *down {
+                *down -= *length;
+                return Some(0);
+            }
+            let part = *length - *down;
+            *down = 0;
             Some(part)
         })
         .filter(|part| *part != 0)

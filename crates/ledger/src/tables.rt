@@ -74,7 +74,7 @@ impl Ledger {
             return None;
         }
         self.admitted += 1;
-        self.openings.put(self.admitted, opened).unwrap();
+        self.openings.put(&self.admitted, opened).unwrap();
         Some(self.admitted)
     }
 
@@ -87,7 +87,7 @@ impl Ledger {
             return None;
         }
         self.given += 1;
-        self.tickets.put(self.given, ticket).unwrap();
+        self.tickets.put(&self.given, ticket).unwrap();
         Some(self.given)
     }
 
@@ -96,29 +96,25 @@ impl Ledger {
         requires { F.IsAlwaysCallable f }
         ensures { (by : Account → Account) → ((a b : Account) → F.post f a b → b ≡ by a) → state_of self.new ≡ change (state_of self.old) number by }
     {
-        self.openings.update(
-            &number,
-            |opening| Opening {
-                account: f(opening.account),
-                ..opening
-            },
-        );
+        if let Some(opening) = self.opening(number) {
+            let account = f(opening.account);
+            self.openings
+                .replace(&number, Opening { account, ..opening });
+        }
     }
 
-    // Sets the account of an opening that is there; the two go beside each other, as in the rule. By the table: by `change` it was
-    // tried, and the proof did not close.
+    // Sets the account of an opening that is there; the two go beside each other, as in the rule.
     pub fn set_account(&mut self, number: u64, account: Account)
         ensures { state_of self.new ≡ with_opening (state_of self.old) number (option_map (λ o. with_account o account) ((state_of self.old).openings.at number)) }
     {
-        self.openings
-            .update(&number, |opening| Opening { account, ..opening });
+        self.change(number, |_| account);
     }
 
     // Changes a ticket that is there.
     pub fn set_ticket(&mut self, number: u64, ticket: Ticket)
         ensures { state_of self.new ≡ with_ticket (state_of self.old) number (option_map (λ _. ticket) ((state_of self.old).tickets.at number)) }
     {
-        self.tickets.update(&number, |_| ticket);
+        self.tickets.replace(&number, ticket);
     }
 
     pub fn free_opening(&mut self, number: u64)

@@ -65,27 +65,36 @@ impl Pending {
         ensures fit { is_ok result ≡ fits 64 (entries self.old) key.now }
         ensures after { entries self.new ≡ (if is_ok result then put same_key (entries self.old) key.now (Some (new_entry opening was.now)) else entries self.old) }
     {
-        self.names.put(*key, Entry::admit(opening, was))
+        self.names.put(key, Entry::admit(opening, was))
+    }
+
+    // Changes the entry of a name that has one.
+    fn change<F: FnOnce(Entry) -> Entry>(&mut self, key: &Key, by: F)
+        requires { F.IsAlwaysCallable by }
+        ensures { (f : _) → ((v w : _) → F.post by v w → w ≡ f v) → entries self.new ≡ put same_key (entries self.old) key.now (option_map f ((entries self.old).at key.now)) }
+    {
+        if let Some(entry) = self.find(key) {
+            self.names.replace(key, by(entry));
+        }
     }
 
     // An opening that ended registers as unsettled, only while it still owns its name and no earlier one is settling.
     pub fn register(&mut self, key: &Key, opening: u64)
         ensures { entries self.new ≡ put same_key (entries self.old) key.now (option_map (registered opening) ((entries self.old).at key.now)) }
     {
-        self.names.update(key, |entry| entry.register(opening));
+        self.change(key, |entry| entry.register(opening));
     }
 
     // Settles an ended opening that has no ticket out. `ended` says whether the entry's own opening has ended. The entry is
-    // looked up before it is changed or freed: a closure method of the table that may free would serve this call alone.
+    // looked up, and then changed or freed: a call of the table for both would serve this one alone.
     pub fn settle(&mut self, key: &Key, opening: u64, tracker: &Tracker, ended: bool)
         ensures { entries self.new ≡ put same_key (entries self.old) key.now (settling ended opening tracker.now ((entries self.old).at key.now)) }
     {
-        let kept = self
-            .find(key)
-            .and_then(|entry| entry.settle(opening, tracker).keep(ended));
-        match kept {
-            Some(kept) => self.names.update(key, |_| kept),
-            None => self.names.free(key),
+        if let Some(entry) = self.find(key) {
+            match entry.settle(opening, tracker).keep(ended) {
+                Some(kept) => self.names.replace(key, kept),
+                None => self.names.free(key),
+            }
         }
     }
 
@@ -93,14 +102,14 @@ impl Pending {
     pub fn clear(&mut self, key: &Key, opening: u64)
         ensures { entries self.new ≡ put same_key (entries self.old) key.now (option_map (cleaned opening) ((entries self.old).at key.now)) }
     {
-        self.names.update(key, |entry| entry.clear(opening));
+        self.change(key, |entry| entry.clear(opening));
     }
 
     // Keeps a failure until the name is forgotten.
     pub fn fail(&mut self, key: &Key, opening: u64, failure: Failure)
         ensures { entries self.new ≡ put same_key (entries self.old) key.now (option_map (failing opening failure) ((entries self.old).at key.now)) }
     {
-        self.names.update(key, |entry| entry.fail(opening, failure));
+        self.change(key, |entry| entry.fail(opening, failure));
     }
 
     // Detaches a removed name.

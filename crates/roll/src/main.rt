@@ -19,33 +19,35 @@ use refused::Refused;
 use std::alloc::{AllocError, Global};
 use std::{fmt, io};
 
-// What is said of a sheet that was made and read back.
-#[derive(Drop)]
-struct Account {
-    job: Job<Counted<FlatDisk>>,
+type Disk = Counted<FlatDisk>;
+
+// What is said of a sheet that was made and read back. The job is lent: its disk is too large to be moved for that.
+#[derive(Clone, Copy)]
+struct Account<'j> {
+    job: &'j Job<Disk>,
     grid: Grid,
 }
 
-impl fmt::Display for Account {
+impl<'j> fmt::Display for Account<'j> {
     fn fmt<W: fmt::Write>(&self, f: &mut fmt::Formatter<W>) -> fmt::Result {
-        let job = &self.job;
+        let job = self.job;
         writeln!(f, "{}\n{}\n{}", job.verdicts, job.disk.asked(), job.met)?;
         write!(f, "last origin {}\n{}", job.origin, self.grid)
     }
 }
 
-// One sheet on a disk with this plan.
-fn roll(plan: Vec<u16>) -> Result<Account, Fault> {
+// One sheet on the job's disk.
+fn roll(job: &mut Job<Disk>) -> Result<Grid, Fault> {
     let key = Key::new(b"roll", b"sheet-1")?;
-    let mut job = Job::new(Counted::new(FlatDisk::new(plan)));
     job.make(&key)?;
-    let grid = job.check(&key)?;
-    Ok(Account { job, grid })
+    job.check(&key)
 }
 
+// One sheet on a disk with this plan.
 fn show(rt: &impl Print, plan: Vec<u16>) -> io::Result<()> {
-    match roll(plan) {
-        Ok(account) => println!(rt; "{account}"),
+    let mut job = Job::new(Counted::new(FlatDisk::new(plan)));
+    match roll(&mut job) {
+        Ok(grid) => println!(rt; "{}", Account { job: &job, grid }),
         // What stops a roll before it has a sheet.
         Err(fault) => println!(rt; "{}", Refused(fault)),
     }

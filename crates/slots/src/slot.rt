@@ -122,7 +122,9 @@ impl FileSlot {
     }
 
     pub fn view(&self) -> FileView<'_>
-        ensures { shown self.now.key result ≡ self.now }
+        ensures value { shown self.now.key result ≡ self.now }
+        ensures covered { result.k ≤ result.n }
+        ensures bound { length result.bytes.now ≤ 4096 }
     {
         FileView {
             bytes: self.content(),
@@ -135,6 +137,7 @@ impl FileSlot {
     pub fn read(&self, offset: u64, into: &mut [u8]) -> usize
         ensures value { result ≡ min (length into.old) (length self.now.bytes - offset) }
         ensures after { into.new ≡ take result (drop offset self.now.bytes) ++ drop result into.old }
+        ensures bound { result ≤ 4096 }
     {
         copy_out(self.content(), offset, into)
     }

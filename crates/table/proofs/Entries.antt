@@ -32,6 +32,10 @@ put_still {K} {Y} same tells m k e =
     let all = sym (ap (λ o. rekeyed {X = Y} same m.keys k o None) e) in
     (λ j. record { at = λ q. at-q q j; keys = all j })
 
+-- nor does to change its value
+pub change_still : {K Y : Type 0} (same : K → K → Bool) (tells : TellsApart same) (m : Map K Y) (k : K) (f : Option Y → Option Y) → None ≡ m.at k → None ≡ f None → m ≡ put same m k (f (m.at k))
+change_still {K} {Y} same tells m k f here is = put_still same tells m k (sym here) ∙ ap (λ (v : Option Y). put same m k v) (is ∙ ap f here)
+
 module _ {X K : Type 0} (same : K → K → Bool) (tells : TellsApart same) (id : X → K) where
   tail : (x : X) (xs : List X) (n : K) (k : ℕ) → Without id (x ∷ xs) n (suc k) → Without id xs n k
   tail x xs n k w j d _ h = w (suc j) d (omega arith) (omega arith)

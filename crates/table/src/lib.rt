@@ -42,9 +42,16 @@ pub trait Keyed {
 
     ghost id: { Self → Self.Key };
 
-    // It is lent, since a key may be large.
-    fn key(&self) -> &Self::Key
-        ensures { result.now ≡ id self.now };
+    // It is answered by value, since it need not be stored.
+    fn key(&self) -> Self::Key
+        ensures { result ≡ id self.now };
+
+    // Whether it is this key. What stores a large key compares it where it lies.
+    fn has(&self, key: &Self::Key) -> bool
+        ensures { result ≡ Self.Key.same (id self.now) key.now }
+    {
+        self.key().is(key)
+    }
 }
 
 // What tells some keys from the rest.
@@ -59,5 +66,5 @@ pub trait Tells<K> {
 pub fn position<T: Keyed>(items: &[T], key: &T::Key) -> Option<usize>
     ensures { Place T.Keyed.id items.now key.now result }
 {
-    items.iter().position(|item| item.key().is(key))
+    items.iter().position(|item| item.has(key))
 }

@@ -14,7 +14,11 @@ impl<K: Identity, V> Keyed for Slot<K, V> {
 
     ghost id = { key_of };
 
-    fn key(&self) -> &K {
-        &self.key
+    fn key(&self) -> K {
+        self.key
+    }
+
+    fn has(&self, key: &K) -> bool {
+        self.key.is(key)
     }
 }

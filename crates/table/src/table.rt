@@ -64,17 +64,17 @@ impl<K: Identity, V: Copy, const N: usize> Table<K, V, N> {
     }
 
     // Puts a value under a key, in the place of what stood there or in a new one, where there is one.
-    pub fn put(&mut self, key: K, value: V) -> Result<(), Full>
-        ensures fit { is_ok result ≡ fits N (map self.old) key }
-        ensures after { map self.new ≡ (if is_ok result then put K.same (map self.old) key (Some value) else map self.old) }
+    pub fn put(&mut self, key: &K, value: V) -> Result<(), Full>
+        ensures fit { is_ok result ≡ fits N (map self.old) key.now }
+        ensures after { map self.new ≡ (if is_ok result then put K.same (map self.old) key.now (Some value) else map self.old) }
     {
-        match self.place(&key) {
+        match self.place(key) {
             Some(i) => self.items[i].value = value,
             None => {
                 if self.items.len() >= N {
                     return Err(Full);
                 }
-                self.items.push_reserved(Slot { key, value });
+                self.items.push_reserved(Slot { key: *key, value });
             }
         }
         Ok(())
@@ -89,16 +89,12 @@ impl<K: Identity, V: Copy, const N: usize> Table<K, V, N> {
         }
     }
 
-    // Changes the value of a key that has one.
-    pub fn update<F: FnOnce(V) -> V>(&mut self, key: &K, change: F)
-        requires { F.IsAlwaysCallable change }
-        ensures made { MatchOption ((map self.old).at key.now) (map self.new ≡ map self.old) (λ v. (w : V) × F.post change v w × (map self.new ≡ put K.same (map self.old) key.now (Some w))) }
-
-        // So, where the closure computes a function:
-        ensures computed { (f : V → V) → ((v w : V) → F.post change v w → w ≡ f v) → map self.new ≡ put K.same (map self.old) key.now (option_map f ((map self.old).at key.now)) }
+    // Sets the value of a key that has one.
+    pub fn replace(&mut self, key: &K, value: V)
+        ensures { map self.new ≡ put K.same (map self.old) key.now (option_map (λ _. value) ((map self.old).at key.now)) }
     {
         if let Some(i) = self.place(key) {
-            self.items[i].value = change(self.items[i].value);
+            self.items[i].value = value;
         }
     }
 

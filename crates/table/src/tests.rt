@@ -1,7 +1,7 @@
 // A table that fills, frees a place and fills again.
-ghost use Rattle.std.specs.Prelude.{◌%◌, ◌==◌};
+ghost use Rattle.std.specs.Prelude.{◌+◌, ◌*◌, ◌%◌, ◌==◌};
 
-use crate::{Full, Table, Tells};
+use crate::{Full, Keyed, Table, Tells, position};
 use std::test::Fail;
 
 #[test]
@@ -15,7 +15,7 @@ fn fills(rt: HostRuntime) -> Result<(), Fail> {
         (7, Ok(())),
         (8, Ok(())),
     ] {
-        assert_eq!(rt; table.put(number, 1), fits);
+        assert_eq!(rt; table.put(&number, 1), fits);
     }
     assert_eq!(rt; table.taken(), 2);
     Ok(())
@@ -24,17 +24,43 @@ fn fills(rt: HostRuntime) -> Result<(), Fail> {
 #[test]
 fn frees(rt: HostRuntime) -> Result<(), Fail> {
     let mut table: Table<u64, u8, 2> = Table::new(rt.alloc())?;
-    assert_eq!(rt; table.put(7, 1), Ok(()));
-    assert_eq!(rt; table.put(8, 2), Ok(()));
-    assert_eq!(rt; table.put(7, 3), Ok(()));
+    assert_eq!(rt; table.put(&7, 1), Ok(()));
+    assert_eq!(rt; table.put(&8, 2), Ok(()));
+    assert_eq!(rt; table.put(&7, 3), Ok(()));
     assert_eq!(rt; table.get(&7), Some(3));
     table.free(&7);
     table.free(&7);
     assert_eq!(rt; table.get(&7), None);
     assert_eq!(rt; table.get(&8), Some(2));
     assert_eq!(rt; table.taken(), 1);
-    assert_eq!(rt; table.put(9, 4), Ok(()));
+    assert_eq!(rt; table.put(&9, 4), Ok(()));
     assert_eq!(rt; table.get(&9), Some(4));
+    Ok(())
+}
+
+// A row's number is computed, and is not stored as such.
+#[derive(Clone, Copy)]
+struct Row {
+    tens: u8,
+    ones: u8,
+}
+
+impl Keyed for Row {
+    type Key = u64;
+
+    ghost id = { λ r. r.tens * 10 + r.ones };
+
+    fn key(&self) -> u64 {
+        u64::from(self.tens) * 10 + u64::from(self.ones)
+    }
+}
+
+#[test]
+fn rows_are_found_by_what_they_compute(rt: HostRuntime) -> Result<(), Fail> {
+    let rows = [(0, 7), (1, 2), (1, 7)].map(|(tens, ones)| Row { tens, ones });
+    assert_eq!(rt; position(&rows, &17), Some(2));
+    assert_eq!(rt; position(&rows, &12), Some(1));
+    assert_eq!(rt; position(&rows, &71), None);
     Ok(())
 }
 
@@ -53,10 +79,10 @@ impl Tells<u64> for Even {
 fn changes_what_is_there(rt: HostRuntime) -> Result<(), Fail> {
     let mut table: Table<u64, u8, 3> = Table::new(rt.alloc())?;
     for number in [4, 5, 6] {
-        assert_eq!(rt; table.put(number, 1), Ok(()));
+        assert_eq!(rt; table.put(&number, 1), Ok(()));
     }
-    table.update(&5, |value| value / 2);
-    table.update(&7, |value| value / 2);
+    table.replace(&5, 0);
+    table.replace(&7, 0);
     assert_eq!(rt; table.get(&4), Some(1));
     assert_eq!(rt; table.get(&5), Some(0));
     assert_eq!(rt; table.get(&7), None);

@@ -16,7 +16,7 @@ impl Keyed for Place {
 
     ghost id = { number_of };
 
-    fn key(&self) -> &u64 {
-        &self.number
+    fn key(&self) -> u64 {
+        self.number
     }
 }

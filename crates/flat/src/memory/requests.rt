@@ -56,7 +56,7 @@ impl Disk for FlatDisk {
 
     ghost did = { FlatDid };
 
-    ghost valid = { λ d. Laws.valid d.files.slots d.sound };
+    ghost valid = { λ d. Laws.valid d.files.slots d.sound.distinct d.sound.covered };
 
     ghost keeps = { λ d q a e h.
         let s = flat_meaning d in
