@@ -28,15 +28,19 @@ pub fn chunk_count(lengths: &[u64]) -> usize
     }
 }
 
-// Whether the lengths add up to `size`. It stops at the first that is too much.
-#[tactic(auto, using(crate::proofs::Sums::total_is_sum))]
+// Whether the lengths add up to `size`. It takes them off one by one, so no sum can wrap, and stops at one that is more than is
+// left. A chain reads all lengths of a body that is refused, or takes nearly twice the instructions.
 fn add_up(lengths: &[u64], size: u64) -> bool
     ensures { result ≡ (total lengths.now == size) }
 {
-    lengths.iter().try_fold(
-        0,
-        |sum: u64, length| sum.checked_add(*length).filter(|sum| *sum <= size),
-    ) == Some(size)
+    let mut rest = size;
+    for length in lengths {
+        if rest < *length {
+            return false;
+        }
+        rest -= *length;
+    }
+    rest == 0
 }
 
 // Whether a header of `size` bytes is within its limit.
@@ -62,12 +66,8 @@ pub fn next_len(lengths: &[u64], landed: usize, left: usize) -> usize
     lengths
         .iter()
         .scan(landed as u64, |down, length| {
-            if *length <= *down {
-                *down -= *length;
-                return Some(0);
-            }
-            let part = *length - *down;
-            *down = 0;
+            let part = length.saturating_sub(*down);
+            *down = down.saturating_sub(*length);
             Some(part)
         })
         .filter(|part| *part != 0)
