@@ -11,7 +11,7 @@ use Rattle.disk.specs.Files.{FileState, DiskState, put, kept, with_holds, with_k
 use Rattle.disk.specs.Rules.{unnamed, unnamed_by}
 use Rattle.slots.specs.FileSteps.{held, write_answer, after_write, resize_answer, after_resize, header_answer, after_header, end_answer, after_end}
 use Rattle.slots.specs.Codes.{no_room}
-use Rattle.flat.specs.Places.{Sound}
+use Rattle.flat.specs.Places.{Distinct, Covered, Within, Sound}
 use Rattle.flat.specs.Steps.{edited, close, open_old, open_new, open_by, first_bound, first_free, unbind}
 use Rattle.flat.specs.RowsLemmas.{never, kept_is}
 use Rattle.flat.specs.Keeps.{Keeps, KeepsCovered, KeepsWithin, keeps_write, keeps_resize, keeps_header, keeps_end, covers_write, covers_resize, covers_header, covers_end, within_write, within_resize, within_header}
@@ -100,53 +100,62 @@ less = record { fresh = λ q. omega arith; holds = λ x h l. l; key = λ x q l. 
 short : Lasts Short
 short = record { fresh = λ q. omega arith; holds = λ x h l. l; key = λ x q l. l }
 
-edited_sound : {A E : Type 0} (fault : DiskFault → E) (answer : FileState → Result A E) (after : FileState → Result A E → FileState) (s : DiskState) (f : ℕ) → ((x : FileState) (r : Result A E) → Keeps x (after x r)) → ((x : FileState) (r : Result A E) → KeepsCovered x (after x r)) → ((x : FileState) → KeepsWithin x (after x (answer x))) → Sound s → Sound (edited fault s f (held (s f)) answer after).1
-edited_sound fault answer after s f keeps covers fits k = record {
-  distinct = edited_distinct fault answer after keeps s f k.distinct;
-  covered = each_edited Less less fault answer after (λ x. covers x (answer x)) s f k.covered (s f) refl;
-  within = each_edited Short short fault answer after fits s f k.within (s f) refl;
+-- what a request leaves: each fact by itself, where it was so before
+pub record Leaves (s t : DiskState) : Type 0 where
+  pub distinct : Distinct s → Distinct t
+  pub covered : Covered s → Covered t
+  pub within : Within s → Within t
+
+pub still_sound : {s t : DiskState} → Leaves s t → Sound s → Sound t
+still_sound l k = record { distinct = l.distinct k.distinct; covered = l.covered k.covered; within = l.within k.within }
+
+edited_sound : {A E : Type 0} (fault : DiskFault → E) (answer : FileState → Result A E) (after : FileState → Result A E → FileState) (s : DiskState) (f : ℕ) → ((x : FileState) (r : Result A E) → Keeps x (after x r)) → ((x : FileState) (r : Result A E) → KeepsCovered x (after x r)) → ((x : FileState) → KeepsWithin x (after x (answer x))) → Leaves s (edited fault s f (held (s f)) answer after).1
+edited_sound fault answer after s f keeps covers fits = record {
+  distinct = edited_distinct fault answer after keeps s f;
+  covered = λ c. each_edited Less less fault answer after (λ x. covers x (answer x)) s f c (s f) refl;
+  within = λ c. each_edited Short short fault answer after fits s f c (s f) refl;
 }
 
-close_sound : (s : DiskState) (f : ℕ) → Sound s → Sound (close s f (held (s f)))
-close_sound s f k = record { distinct = close_distinct s f k.distinct; covered = each_close Less less s f (s f) k.covered refl; within = each_close Short short s f (s f) k.within refl }
+close_sound : (s : DiskState) (f : ℕ) → Leaves s (close s f (held (s f)))
+close_sound s f = record { distinct = close_distinct s f; covered = λ c. each_close Less less s f (s f) c refl; within = λ c. each_close Short short s f (s f) c refl }
 
-unbind_sound : (going : KeyName → Bool) (s : DiskState) → Sound s → Sound (unbind going s (first_bound going s)).1
-unbind_sound going s k = record {
-  distinct = unbind_distinct going s k.distinct;
-  covered = each_unbind Less less going s (first_bound going s) k.covered;
-  within = each_unbind Short short going s (first_bound going s) k.within;
+unbind_sound : (going : KeyName → Bool) (s : DiskState) → Leaves s (unbind going s (first_bound going s)).1
+unbind_sound going s = record {
+  distinct = unbind_distinct going s;
+  covered = each_unbind Less less going s (first_bound going s);
+  within = each_unbind Short short going s (first_bound going s);
 }
 
-open_sound : (s : DiskState) (q : KeyName) → Small s → Sound s → Sound (open_by s q (first_bound (same_key q) s)).1
-open_sound s q m k = record {
-  distinct = open_distinct s q m k.distinct;
-  covered = each_open Less less s q (first_bound (same_key q) s) k.covered;
-  within = each_open Short short s q (first_bound (same_key q) s) k.within;
+open_sound : (s : DiskState) (q : KeyName) → Small s → Leaves s (open_by s q (first_bound (same_key q) s)).1
+open_sound s q m = record {
+  distinct = open_distinct s q m;
+  covered = each_open Less less s q (first_bound (same_key q) s);
+  within = each_open Short short s q (first_bound (same_key q) s);
 }
 
 -- ---- the files after a request, by the equation that it ensures
 
-edited_leaves : {A E : Type 0} (fault : DiskFault → E) (answer : FileState → Result A E) (after : FileState → Result A E → FileState) (s t : DiskState) (f : ℕ) (r : Result A E) → (r, t) ≡ edited fault s f (held (s f)) answer after → ((x : FileState) (r : Result A E) → Keeps x (after x r)) → ((x : FileState) (r : Result A E) → KeepsCovered x (after x r)) → ((x : FileState) → KeepsWithin x (after x (answer x))) → Sound s → Sound t
-edited_leaves fault answer after s t f r e keeps covers fits k = subst Sound (sym (ap (λ v. v.1) e)) (edited_sound fault answer after s f keeps covers fits k)
+edited_leaves : {A E : Type 0} (fault : DiskFault → E) (answer : FileState → Result A E) (after : FileState → Result A E → FileState) (s t : DiskState) (f : ℕ) (r : Result A E) → (r, t) ≡ edited fault s f (held (s f)) answer after → ((x : FileState) (r : Result A E) → Keeps x (after x r)) → ((x : FileState) (r : Result A E) → KeepsCovered x (after x r)) → ((x : FileState) → KeepsWithin x (after x (answer x))) → Leaves s t
+edited_leaves fault answer after s t f r e keeps covers fits = subst (Leaves s) (sym (ap (λ v. v.1) e)) (edited_sound fault answer after s f keeps covers fits)
 
-pub write_leaves : (s t : DiskState) (f at : ℕ) (given : List ℕ) (durably : Bool) (limit : ℕ) (r : Result ℕ WriteFault) → (r, t) ≡ edited failed s f (held (s f)) (write_answer at (length given) durably limit) (after_write at given durably) → Sound s → Sound t
-write_leaves s t f at given durably limit r e k =
-    edited_leaves failed (write_answer at (length given) durably limit) (after_write at given durably) s t f r e (keeps_write at given durably) (covers_write at given durably) (within_write at given durably limit) k
+pub write_leaves : (s t : DiskState) (f at : ℕ) (given : List ℕ) (durably : Bool) (limit : ℕ) (r : Result ℕ WriteFault) → (r, t) ≡ edited failed s f (held (s f)) (write_answer at (length given) durably limit) (after_write at given durably) → Leaves s t
+write_leaves s t f at given durably limit r e =
+    edited_leaves failed (write_answer at (length given) durably limit) (after_write at given durably) s t f r e (keeps_write at given durably) (covers_write at given durably) (within_write at given durably limit)
 
-pub resize_leaves : (s t : DiskState) (f end : ℕ) (r : Result (Unit {0}) ResizeFault) → (r, t) ≡ edited failed s f (held (s f)) (resize_answer end) (after_resize end) → Sound s → Sound t
-resize_leaves s t f end r e k = edited_leaves failed (resize_answer end) (after_resize end) s t f r e (keeps_resize end) (covers_resize end) (within_resize end) k
+pub resize_leaves : (s t : DiskState) (f end : ℕ) (r : Result (Unit {0}) ResizeFault) → (r, t) ≡ edited failed s f (held (s f)) (resize_answer end) (after_resize end) → Leaves s t
+resize_leaves s t f end r e = edited_leaves failed (resize_answer end) (after_resize end) s t f r e (keeps_resize end) (covers_resize end) (within_resize end)
 
-pub end_leaves : (s t : DiskState) (f mark : ℕ) (r : Result (Unit {0}) FlushFault) → (r, t) ≡ edited failed s f (held (s f)) end_answer (after_end mark) → Sound s → Sound t
-end_leaves s t f mark r e k = edited_leaves failed end_answer (after_end mark) s t f r e (keeps_end mark) (covers_end mark) (λ x h. h) k
+pub end_leaves : (s t : DiskState) (f mark : ℕ) (r : Result (Unit {0}) FlushFault) → (r, t) ≡ edited failed s f (held (s f)) end_answer (after_end mark) → Leaves s t
+end_leaves s t f mark r e = edited_leaves failed end_answer (after_end mark) s t f r e (keeps_end mark) (covers_end mark) (λ x h. h)
 
-pub header_leaves : (s t : DiskState) (f : ℕ) (given : List ℕ) (r : Result (Unit {0}) WriteFault) → (r, t) ≡ edited failed s f (held (s f)) (header_answer (length given)) (after_header given) → Sound s → Sound t
-header_leaves s t f given r e k = edited_leaves failed (header_answer (length given)) (after_header given) s t f r e (keeps_header given) (covers_header given) (within_header given) k
+pub header_leaves : (s t : DiskState) (f : ℕ) (given : List ℕ) (r : Result (Unit {0}) WriteFault) → (r, t) ≡ edited failed s f (held (s f)) (header_answer (length given)) (after_header given) → Leaves s t
+header_leaves s t f given r e = edited_leaves failed (header_answer (length given)) (after_header given) s t f r e (keeps_header given) (covers_header given) (within_header given)
 
-pub close_leaves : (s t : DiskState) (f : ℕ) → t ≡ close s f (held (s f)) → Sound s → Sound t
-close_leaves s t f e k = subst Sound (sym e) (close_sound s f k)
+pub close_leaves : (s t : DiskState) (f : ℕ) → t ≡ close s f (held (s f)) → Leaves s t
+close_leaves s t f e = subst (Leaves s) (sym e) (close_sound s f)
 
-pub unbind_leaves : (going : KeyName → Bool) (s t : DiskState) (r : Result (Unit {0}) UnbindFault) → (r, t) ≡ unbind going s (first_bound going s) → Sound s → Sound t
-unbind_leaves going s t r e k = subst Sound (sym (ap (λ v. v.1) e)) (unbind_sound going s k)
+pub unbind_leaves : (going : KeyName → Bool) (s t : DiskState) (r : Result (Unit {0}) UnbindFault) → (r, t) ≡ unbind going s (first_bound going s) → Leaves s t
+unbind_leaves going s t r e = subst (Leaves s) (sym (ap (λ v. v.1) e)) (unbind_sound going s)
 
-pub open_leaves : (s t : DiskState) (q : KeyName) (r : Result ℕ OpenFault) → (r, t) ≡ open_by s q (first_bound (same_key q) s) → Small s → Sound s → Sound t
-open_leaves s t q r e m k = subst Sound (sym (ap (λ v. v.1) e)) (open_sound s q m k)
+pub open_leaves : (s t : DiskState) (q : KeyName) (r : Result ℕ OpenFault) → (r, t) ≡ open_by s q (first_bound (same_key q) s) → Small s → Leaves s t
+open_leaves s t q r e m = subst (Leaves s) (sym (ap (λ v. v.1) e)) (open_sound s q m)
